@@ -1,0 +1,88 @@
+-- Laws of membership, in joined lists and in the part of a list that was taken.
+use Prim.Native.Nat.{ℕ, zero, suc, _<_}
+use mathlib.Core.Path.{_≡_, refl, sym, ap, _∙_}
+use mathlib.Core.Bool.{Bool, true, false, _||_}
+use mathlib.Core.List.{List, [], _∷_, _++_}
+use mathlib.Core.Logic.{_⊎_, inl, inr}
+use lib.Dec.{eqb}
+use lib.ListN.{length, getD, take, drop, take-append-drop}
+use lib.Seq.{take-suc}
+use native.Mathlib.Omega.{arith}
+use borrow.Author.Tests.{eqb-true, eq-eqb}
+use Rattle.graphs.specs.Lists.{Mem, elem}
+use Rattle.graphs.proofs.Tests.{clash, not-both, or-cases, or-inl, or-inr}
+
+pub mem-left : (x : ℕ) (s t : List ℕ) → Mem x s → Mem x (s ++ t)
+mem-left x (y ∷ s) t (inl e) = inl e
+mem-left x (y ∷ s) t (inr h) = inr (mem-left x s t h)
+
+pub mem-right : (x : ℕ) (s t : List ℕ) → Mem x t → Mem x (s ++ t)
+mem-right x [] t h = h
+mem-right x (y ∷ s) t h = inr (mem-right x s t h)
+
+pub mem-cases : (x : ℕ) (s t : List ℕ) → Mem x (s ++ t) → Mem x s ⊎ Mem x t
+mem-cases x [] t h = inr h
+mem-cases x (y ∷ s) t (inl e) = inl (inl e)
+mem-cases x (y ∷ s) t (inr h) = go (mem-cases x s t h)
+  where
+    go : Mem x s ⊎ Mem x t → Mem x (y ∷ s) ⊎ Mem x t
+    go (inl m) = inl (inr m)
+    go (inr m) = inr m
+
+pub mem-take : (x k : ℕ) (l : List ℕ) → Mem x (take k l) → Mem x l
+mem-take x k l h = rw (take-append-drop k l) at (mem-left x (take k l) (drop k l) h)
+
+pub mem-drop : (x k : ℕ) (l : List ℕ) → Mem x (drop k l) → Mem x l
+mem-drop x k l h = rw (take-append-drop k l) at (mem-right x (take k l) (drop k l) h)
+
+-- what stands at a place below the length is a member, and every member stands at one
+pub mem-at : (l : List ℕ) (i : ℕ) → i < length l → Mem (getD l i 0) l
+mem-at [] i h = absurd (omega arith)
+mem-at (x ∷ l) zero h = inl refl
+mem-at (x ∷ l) (suc i) h = inr (mem-at l i (omega arith))
+
+pub mem-place : (x : ℕ) (l : List ℕ) → Mem x l → (i : ℕ) × (i < length l) × (getD l i 0 ≡ x)
+mem-place x (y ∷ l) (inl e) = (0, omega arith, sym e)
+mem-place x (y ∷ l) (inr h) = let p = mem-place x l h in (suc (p .0), omega (arith, p .1), p .2)
+
+-- k successors were taken, and y is next
+pub all-taken : (k : ℕ) (l : List ℕ) → drop k l ≡ [] → take k l ≡ l
+all-taken zero l e = sym e
+all-taken (suc k) [] e = refl
+all-taken (suc k) (x ∷ l) e = ap (λ r. x ∷ r) (all-taken k l e)
+
+pub drop-mem : (k : ℕ) (l : List ℕ) (y : ℕ) (r : List ℕ) → drop k l ≡ y ∷ r → Mem y l
+drop-mem k l y r e = mem-drop y k l (rw e (inl refl))
+
+pub take-one : (k : ℕ) (l : List ℕ) (y : ℕ) (r : List ℕ) → drop k l ≡ y ∷ r
+    → (x : ℕ) → Mem x (take (suc k) l) → Mem x (take k l) ⊎ (x ≡ y)
+take-one k [] y r e x h = absurd h
+take-one zero (z ∷ l) y r e x (inl p) = inr (cc)
+take-one zero (z ∷ l) y r e x (inr h) = absurd h
+take-one (suc k) (z ∷ l) y r e x (inl p) = inl (inl p)
+take-one (suc k) (z ∷ l) y r e x (inr h) = go (take-one k l y r e x h)
+  where
+    go : Mem x (take k l) ⊎ (x ≡ y) → Mem x (z ∷ take k l) ⊎ (x ≡ y)
+    go (inl m) = inl (inr m)
+    go (inr q) = inr q
+
+-- the test of membership
+pub elem-mem : (x : ℕ) (l : List ℕ) → elem x l ≡ true → Mem x l
+unfolding elem
+elem-mem x [] e = absurd (clash e refl)
+elem-mem x (y ∷ l) e = go (elem-mem x l) (or-cases (eqb x y) (elem x l) e)
+  where
+    go : (elem x l ≡ true → Mem x l) → (eqb x y ≡ true) ⊎ (elem x l ≡ true) → Mem x (y ∷ l)
+    go rest (inl p) = inl (eqb-true x y p)
+    go rest (inr p) = inr (rest p)
+
+pub mem-elem : (x : ℕ) (l : List ℕ) → Mem x l → elem x l ≡ true
+unfolding elem
+mem-elem x (y ∷ l) (inl p) = or-inl (eqb x y) (elem x l) (eq-eqb x y p)
+mem-elem x (y ∷ l) (inr h) = or-inr (eqb x y) (elem x l) (mem-elem x l h)
+
+pub not-elem : (x : ℕ) (l : List ℕ) → (Mem x l → ⊥) → elem x l ≡ false
+not-elem x l h = not-both (λ e. h (elem-mem x l e))
+
+pub elem-not : (x : ℕ) (l : List ℕ) → elem x l ≡ false → Mem x l → ⊥
+elem-not x l e h = clash (mem-elem x l h) e
