@@ -39,7 +39,9 @@ pub fn never_falling(offsets: &[u16], n: usize) -> bool
 {
     let mut s = 0;
     while s < n {
-        if offsets[s + 1] < offsets[s] {
+        let low = offsets[s];
+        let high = offsets[s + 1];
+        if high < low {
             return false;
         }
         s += 1;

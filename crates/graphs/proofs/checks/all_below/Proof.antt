@@ -1,20 +1,17 @@
-use borrow.Author.Needs.{needs}
-use Rattle.graphs.proofs.Every.{every-more, every-not}
-use Rattle.graphs.specs.Words.{allBelow}
-use Rattle.graphs.specs.Lists.{every}
-use borrow.Author.Tests.{lt-ltb, le-ltb}
-use native.Mathlib.Omega.{arith}
-use lib.ListN.{length, getD}
-use lib.Dec.{ltb}
-use Prim.Native.Nat.{ℕ, _+_, _-_, _≤_}
-use mathlib.Core.List.{List}
-use mathlib.Core.Bool.{Bool, true}
+-- `all_below` meets its contract. The words before k are below the bound.
+use Prim.Native.Nat.{_-_, _≤_}
+use mathlib.Core.Bool.{true}
 use mathlib.Core.Path.{_≡_, refl, sym}
+use native.Mathlib.Omega.{arith}
+use lib.Dec.{ltb}
+use lib.ListN.{length, getD}
+use borrow.Author.Needs.{needs}
+use borrow.Author.Tests.{lt-ltb, le-ltb}
+use Rattle.graphs.specs.Lists.{every}
+use Rattle.graphs.specs.Words.{allBelow}
+use Rattle.graphs.proofs.Every.{every-more, every-not}
 use Rattle.graphs.proofs.checks.all_below.Statement.{statement}
 use Rattle.graphs.proofs.checks.all_below.Tie as tie
-use Rattle.graphs.proofs.checks.all_below.Reads as reads
-use Rattle.graphs.proofs.checks.all_below.Lts as lts
-use Rattle.graphs.proofs.checks.wide.Reads as wide-reads
 
 abbrev Inv-loop : tie.InvT-loop
 Inv-loop words bound k₀ k = (k ≤ length words) × (every k (λ i. ltb (getD words i 0) bound) ≡ true)
@@ -22,41 +19,32 @@ Inv-loop words bound k₀ k = (k ≤ length words) × (every k (λ i. ltb (getD 
 abbrev μ-loop : tie.MeasureT-loop
 μ-loop words bound k₀ k = length words - k
 
--- src/checks.rt:57:5
 loop-holds : tie.Need-loop-holds Inv-loop μ-loop
 unfolding every
 loop-holds c = (search needs, refl)
 
--- src/checks.rt:58:26
 mul-wide : tie.Need-mul-wide Inv-loop μ-loop
 mul-wide c = search needs
 
--- src/checks.rt:58:26
 shared-slice-read-wide : tie.Need-shared-slice-read-wide Inv-loop μ-loop
 shared-slice-read-wide c = search needs
 
--- src/checks.rt:58:21
 wide-requires : tie.Need-wide-requires Inv-loop μ-loop
 wide-requires c κs = search needs
 
--- src/checks.rt:59:13
 returns : tie.Need-returns Inv-loop μ-loop
 unfolding allBelow
 returns c = sym (every-not _ _ _ (c .before .before .before .loop-test .taken) (le-ltb _ _ (rw (c .before .wide .ensures) at (c .if1 .taken))))
 
--- src/checks.rt:61:9
 add-k : tie.Need-add-k Inv-loop μ-loop
 add-k c = search needs
 
--- src/checks.rt:57:5
 loop-less : tie.Need-loop-less Inv-loop μ-loop
 loop-less c = search needs
 
--- src/checks.rt:57:5
 loop-again : tie.Need-loop-again Inv-loop μ-loop
 loop-again c = (search needs, every-more _ _ (c .before .before .before .before .loop .inv .1) (lt-ltb _ _ (rw (c .before .wide .ensures) at (c .if1 .left))))
 
--- src/checks.rt:53:1
 returns-2 : tie.Need-returns-2 Inv-loop μ-loop
 unfolding allBelow
 returns-2 c = let e : c .before .loop .k ≡ length (c .before .before .before .args .words .now) = omega arith in sym (rw e at (c .before .loop .inv .1))

@@ -1,22 +1,18 @@
-use Rattle.graphs.proofs.Tests.{if-not, if-so}
-use borrow.Author.Needs.{needs}
-use Rattle.graphs.proofs.Stamps.{zeroes-at}
-use Rattle.graphs.proofs.Words.{rising-to}
-use Rattle.graphs.proofs.Every.{every-more, every-not}
-use Rattle.graphs.specs.Words.{noneTwice, successors}
-use Rattle.graphs.specs.Lists.{every, repeats}
+-- `none_twice` meets its contract. No state before s has a target twice, and no stamp in the table is above s.
+use Prim.Native.Nat.{ℕ, _+_, _-_, _≤_, _<_}
+use mathlib.Core.Bool.{true}
+use mathlib.Core.Path.{_≡_, refl, sym, _∙_}
 use native.Mathlib.Omega.{arith}
 use lib.ListN.{length, getD}
-use Prim.Native.Nat.{ℕ, _+_, _-_, _≤_, _<_}
-use mathlib.Core.List.{List}
-use mathlib.Core.Bool.{Bool, true, not}
-use mathlib.Core.Path.{_≡_, refl, sym, _∙_}
+use borrow.Author.Needs.{needs}
+use Rattle.graphs.specs.Lists.{every}
+use Rattle.graphs.specs.Words.{noneTwice}
+use Rattle.graphs.proofs.Every.{every-more, every-not}
+use Rattle.graphs.proofs.Stamps.{zeroes-at}
+use Rattle.graphs.proofs.Tests.{if-not, if-so}
+use Rattle.graphs.proofs.Words.{rising-to}
 use Rattle.graphs.proofs.checks.none_twice.Statement.{statement}
 use Rattle.graphs.proofs.checks.none_twice.Tie as tie
-use Rattle.graphs.proofs.checks.none_twice.Reads as reads
-use Rattle.graphs.proofs.checks.none_twice.Lts as lts
-use Rattle.graphs.proofs.checks.stamp_source.Reads as stamp-source-reads
-use Rattle.graphs.proofs.checks.wide.Reads as wide-reads
 
 abbrev Inv-loop : tie.InvT-loop
 Inv-loop offsets targets n table₀ s₀ table s = (s ≤ n) × (length table ≡ 4096) × ((x : ℕ) → getD table x 0 < s + 1) × (noneTwice offsets targets s ≡ true)
@@ -24,20 +20,16 @@ Inv-loop offsets targets n table₀ s₀ table s = (s ≤ n) × (length table �
 abbrev μ-loop : tie.MeasureT-loop
 μ-loop offsets targets n table₀ s₀ table s = n - s
 
--- src/checks.rt:70:9
 slice-aggregate-table : tie.Need-slice-aggregate-table Inv-loop μ-loop
 slice-aggregate-table c = search needs
 
--- src/checks.rt:72:5
 loop-holds : tie.Need-loop-holds Inv-loop μ-loop
 unfolding noneTwice every
 loop-holds c = (search needs, refl, λ x. omega (arith, zeroes-at 4096 x), refl)
 
--- src/checks.rt:72:11
 wide-requires : tie.Need-wide-requires Inv-loop μ-loop
 wide-requires c κs = search needs
 
--- src/checks.rt:73:13
 stamp-source-requires : tie.Need-stamp-source-requires Inv-loop μ-loop
 stamp-source-requires c κs = record {
   small = omega (arith, c .before .before .before .before .before .before .before .pre .few);
@@ -48,25 +40,20 @@ stamp-source-requires c κs = record {
   fresh = c .before .before .before .loop .inv .2;
 }
 
--- src/checks.rt:74:13
 returns : tie.Need-returns Inv-loop μ-loop
 unfolding noneTwice
 returns c = sym (every-not (c .before .before .before .before .before .before .before .before .before .before .before .before .args .n) _ (c .before .before .before .before .before .before .before .before .loop .s) (omega arith) (if-not (c .before .before .before .before .stamp-source .ensures .answer) (c .before .if2 .taken)))
 
--- src/checks.rt:76:9
 add-s : tie.Need-add-s Inv-loop μ-loop
 add-s c = search needs
 
--- src/checks.rt:72:5
 loop-less : tie.Need-loop-less Inv-loop μ-loop
 loop-less c = search needs
 
--- src/checks.rt:72:5
 loop-again : tie.Need-loop-again Inv-loop μ-loop
 unfolding noneTwice
 loop-again c = (omega arith, c .before .before .before .stamp-source .kept .0 ∙ c .before .before .before .before .before .before .before .loop .inv .1, c .before .before .before .stamp-source .ensures .used, every-more (c .before .before .before .before .before .before .before .loop .s) _ (c .before .before .before .before .before .before .before .loop .inv .3) (if-so (c .before .before .before .stamp-source .ensures .answer) (c .if2 .left)))
 
--- src/checks.rt:65:1
 returns-2 : tie.Need-returns-2 Inv-loop μ-loop
 returns-2 c = let e : c .before .before .before .loop .s ≡ c .before .before .before .before .before .before .before .args .n = omega arith in sym (rw e at (c .before .before .before .loop .inv .3))
 

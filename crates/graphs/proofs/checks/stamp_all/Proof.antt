@@ -1,18 +1,15 @@
-use borrow.Author.Needs.{needs}
-use Rattle.graphs.proofs.Stamps.{unseen, stamped, unseen-repeats, unseen-hit, unseen-step, unseen-end, stamped-none, stamped-set, set-bound}
-use Rattle.graphs.specs.Lists.{repeats, upd}
-use borrow.Author.Tests.{eq-eqb, ne-eqb}
-use native.Mathlib.Omega.{arith}
-use lib.ListN.{length, getD, drop, set, length-set}
+-- `stamp_all` meets its contract. What is left of the targets is unseen exactly if the whole does not repeat: seen is what has the stamp.
 use Prim.Native.Nat.{ℕ, _+_, _-_, _≤_, _<_}
-use mathlib.Core.List.{List}
-use mathlib.Core.Bool.{Bool, true, false, not}
-use mathlib.Core.Path.{_≡_, refl, sym, _∙_}
+use mathlib.Core.Bool.{not}
+use mathlib.Core.Path.{_≡_, sym, _∙_}
+use native.Mathlib.Omega.{arith}
+use lib.ListN.{length, getD, drop, length-set}
+use borrow.Author.Needs.{needs}
+use borrow.Author.Tests.{eq-eqb, ne-eqb}
+use Rattle.graphs.specs.Lists.{repeats}
+use Rattle.graphs.proofs.Stamps.{unseen, stamped, unseen-repeats, unseen-hit, unseen-step, unseen-end, stamped-none, stamped-set, set-bound}
 use Rattle.graphs.proofs.checks.stamp_all.Statement.{statement}
 use Rattle.graphs.proofs.checks.stamp_all.Tie as tie
-use Rattle.graphs.proofs.checks.stamp_all.Reads as reads
-use Rattle.graphs.proofs.checks.stamp_all.Lts as lts
-use Rattle.graphs.proofs.checks.wide.Reads as wide-reads
 
 abbrev Inv-loop : tie.InvT-loop
 Inv-loop table₀ targets stamp i₀ table i = (i ≤ length targets) × (length table ≡ length table₀) × ((x : ℕ) → getD table x 0 < stamp + 1) × (unseen (stamped table stamp) (drop i targets) ≡ not (repeats targets))
@@ -20,35 +17,27 @@ Inv-loop table₀ targets stamp i₀ table i = (i ≤ length targets) × (length
 abbrev μ-loop : tie.MeasureT-loop
 μ-loop table₀ targets stamp i₀ table i = length targets - i
 
--- src/checks.rt:92:5
 loop-holds : tie.Need-loop-holds Inv-loop μ-loop
 loop-holds c = (search needs, search needs, λ x. omega (arith, c .before .before .pre .fresh x), unseen-repeats _ _ (stamped-none _ _ (c .before .before .pre .fresh)))
 
--- src/checks.rt:93:22
 mul-wide : tie.Need-mul-wide Inv-loop μ-loop
 mul-wide c = search needs
 
--- src/checks.rt:93:22
 shared-slice-read-wide : tie.Need-shared-slice-read-wide Inv-loop μ-loop
 shared-slice-read-wide c = search needs
 
--- src/checks.rt:93:13
 wide-requires : tie.Need-wide-requires Inv-loop μ-loop
 wide-requires c κs = search needs
 
--- src/checks.rt:94:12
 mul-if1 : tie.Need-mul-if1 Inv-loop μ-loop
 mul-if1 c = omega (arith, c .before .before .before .before .before .before .pre .inside (c .before .before .before .loop .i) (c .before .before .loop-test .taken), c .wide .ensures, c .before .before .before .before .before .before .good .0)
 
--- src/checks.rt:94:12
 slice-read-if1 : tie.Need-slice-read-if1 Inv-loop μ-loop
 slice-read-if1 c = omega (arith, c .before .before .before .before .before .before .before .pre .inside (c .before .before .before .before .loop .i) (c .before .before .before .loop-test .taken), c .before .wide .ensures, c .before .before .before .before .loop .inv .1)
 
--- src/checks.rt:95:13
 same-length : tie.Need-same-length Inv-loop μ-loop
 same-length c = search needs
 
--- src/checks.rt:95:13
 returns : tie.Need-returns Inv-loop μ-loop
 unfolding stamped
 returns c = record {
@@ -56,23 +45,18 @@ returns c = record {
   used = c .before .before .before .before .before .loop .inv .2;
 }
 
--- src/checks.rt:97:9
 mul-table : tie.Need-mul-table Inv-loop μ-loop
 mul-table c = omega (arith, c .before .before .before .before .before .before .before .before .pre .inside (c .before .before .before .before .before .loop .i) (c .before .before .before .before .loop-test .taken), c .before .before .wide .ensures, c .before .before .before .before .before .before .before .before .good .0)
 
--- src/checks.rt:97:9
 slice-write-table : tie.Need-slice-write-table Inv-loop μ-loop
 slice-write-table c = omega (arith, c .before .before .before .before .before .before .before .before .pre .inside (c .before .before .before .before .before .loop .i) (c .before .before .before .before .loop-test .taken), c .before .before .wide .ensures, c .before .before .before .before .before .loop .inv .1)
 
--- src/checks.rt:98:9
 add-i : tie.Need-add-i Inv-loop μ-loop
 add-i c = search needs
 
--- src/checks.rt:92:5
 loop-less : tie.Need-loop-less Inv-loop μ-loop
 loop-less c = search needs
 
--- src/checks.rt:92:5
 loop-again : tie.Need-loop-again Inv-loop μ-loop
 unfolding stamped
 loop-again c =
@@ -85,11 +69,9 @@ loop-again c =
           (sym (unseen-step _ _ (c .before .before .before .before .before .loop .i) (c .before .before .before .before .loop-test .taken) (ne-eqb _ _ (rw (c .before .before .wide .ensures) at (c .if1 .left)))) ∙ c .before .before .before .before .before .loop .inv .3),
     )
 
--- src/checks.rt:87:1
 same-length-2 : tie.Need-same-length-2 Inv-loop μ-loop
 same-length-2 c = search needs
 
--- src/checks.rt:87:1
 returns-2 : tie.Need-returns-2 Inv-loop μ-loop
 returns-2 c = record {
   answer = sym (unseen-end _ _ (c .before .loop .i) (c .loop-test .left)) ∙ c .before .loop .inv .3;
