@@ -1,9 +1,8 @@
 -- Laws of `upd`: a function changed at one place. `upd-ind` says everything of the changed function from what holds there and elsewhere.
 use Prim.Native.Nat.{ℕ}
-use mathlib.Core.Path.{_≡_, refl, sym, subst, _∙_}
-use mathlib.Core.Bool.{Bool, true, false, not, cond}
+use mathlib.Core.Path.{_≡_, refl, subst}
+use mathlib.Core.Bool.{Bool, true, false, not}
 use mathlib.Core.Logic.{_⊎_, inl, inr, _≢_}
-use lib.Dec.{eqb}
 use borrow.Author.Tests.{eq-eqb, ne-eqb}
 use Rattle.graphs.specs.Lists.{upd}
 use Rattle.graphs.proofs.Tests.{same?, clash}

@@ -1,10 +1,10 @@
 -- A lasso shows that a loop through a mark can be reached.
 use Prim.Native.Nat.{ℕ}
-use mathlib.Core.Path.{_≡_, refl, sym, subst}
+use mathlib.Core.Path.{refl, sym}
 use mathlib.Core.List.{List, [], _∷_, _++_}
-use mathlib.Core.Logic.{_⊎_, inl, inr}
+use mathlib.Core.Logic.{inl, inr}
 use Rattle.graphs.specs.Lists.{Mem}
-use Rattle.graphs.specs.Graph.{Graph, Edge, Walk, stay, step, Far}
+use Rattle.graphs.specs.Graph.{Graph, Walk, stay, step, Far}
 use Rattle.graphs.specs.Lasso.{Begins, Linked, Chain, final, Closes, Lasso, MarkedLoop}
 use Rattle.graphs.proofs.Member.{mem-right}
 use Rattle.graphs.proofs.Walk.{walk-far, far-join, edge-far}

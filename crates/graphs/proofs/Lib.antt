@@ -10,3 +10,5 @@ pub mod Lasso
 pub mod Order
 pub mod Words
 pub mod Stamps
+pub mod Cases
+pub mod Settled

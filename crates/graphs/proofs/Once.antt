@@ -1,18 +1,18 @@
 -- Laws of lists in which nothing stands twice: joined lists, the test `repeats`, and the pigeonhole lemma.
-use Prim.Native.Nat.{ℕ, suc, _≤_, _<_, zero-le, suc-le-suc}
-use mathlib.Core.Path.{_≡_, refl, sym, ap, _∙_, subst}
+use Prim.Native.Nat.{ℕ, _≤_, _<_, zero-le, suc-le-suc}
+use mathlib.Core.Path.{_≡_, refl}
 use mathlib.Core.Bool.{Bool, true, false, _||_, cond}
 use mathlib.Core.List.{List, [], _∷_, _++_}
-use mathlib.Core.Logic.{_⊎_, inl, inr, _≢_}
+use mathlib.Core.Logic.{_⊎_, inl, inr}
 use lib.ListN.{length}
 use native.Mathlib.Omega.{arith}
 use native.Mathlib.Nat.{le-refl, le-trans}
 use lib.Dec.{eqb}
 use borrow.Author.Tests.{eq-eqb}
 use Rattle.graphs.specs.Lists.{Mem, Once, elem, repeats, sum}
-use Rattle.graphs.proofs.Tests.{clash, same?, or-cases, or-left, or-right, or-inl, or-inr, not-both}
+use Rattle.graphs.proofs.Tests.{or-left, or-right}
 use Rattle.graphs.proofs.Sum.{sum-lt, sum-all}
-use Rattle.graphs.proofs.Member.{elem-mem, mem-elem, not-elem, elem-not, mem-left, mem-right, mem-cases}
+use Rattle.graphs.proofs.Member.{not-elem, elem-not, mem-cases}
 
 pub once-repeats : (l : List ℕ) → Once l → repeats l ≡ false
 unfolding repeats

@@ -1,14 +1,14 @@
 -- A worker's order of looking shows every successor and nothing else, once for each transition; so a graph with 01's order is sound, whatever
 -- gives its successors.
-use Prim.Native.Nat.{ℕ, _+_, _<_, _%_}
-use mathlib.Core.Path.{_≡_, refl, sym, ap, _∙_}
+use Prim.Native.Nat.{ℕ, _<_, _%_}
+use mathlib.Core.Path.{_≡_, ap}
 use mathlib.Core.Bool.{Bool}
 use mathlib.Core.List.{List, _++_}
 use mathlib.Core.Logic.{_⊎_, inl, inr}
 use lib.ListN.{length, take, drop, length-append, take-append-drop}
 use native.Mathlib.Omega.{arith}
 use Rattle.graphs.specs.Lists.{Mem}
-use Rattle.graphs.specs.Graph.{Graph, graph, turned, Edge, Sound}
+use Rattle.graphs.specs.Graph.{graph, turned, Sound}
 use Rattle.graphs.proofs.Member.{mem-left, mem-right, mem-cases, mem-take, mem-drop}
 
 pub turned-seen : (p : ℕ) (l : List ℕ) (x : ℕ) → Mem x (turned p l) → Mem x l

@@ -1,6 +1,6 @@
 -- The table of stamps: going through the targets of one source and stamping each finds a stamped one exactly if the targets repeat.
 use Prim.Native.Nat.{ℕ, zero, suc, _+_, _-_, _<_, _≤_, min}
-use mathlib.Core.Path.{_≡_, refl, sym, ap, _∙_, fun-ext}
+use mathlib.Core.Path.{_≡_, refl, _∙_, fun-ext}
 use mathlib.Core.Bool.{Bool, true, false, not, _&&_}
 use mathlib.Core.List.{List, [], _∷_}
 use mathlib.Core.Logic.{_⊎_, inl, inr, _≢_}
@@ -11,7 +11,7 @@ use native.Mathlib.Omega.{arith}
 use native.Mathlib.Numerals.{add-one}
 use borrow.Author.Tests.{eq-eqb, ne-eqb, not-true}
 use Rattle.graphs.specs.Lists.{Mem, Once, upd, repeats}
-use Rattle.graphs.proofs.Tests.{either, clash, same?, not-both, and-cases, and-both}
+use Rattle.graphs.proofs.Tests.{either, clash, same?, not-both, and-cases}
 use Rattle.graphs.proofs.Change.{upd-same, upd-other, upd-was}
 use Rattle.graphs.proofs.Once.{once-repeats, repeats-once}
 

@@ -1,6 +1,6 @@
 -- Laws of `sum` over the numbers below n: pointwise order, strictness at one place, and a bound.
 use Prim.Native.Nat.{ℕ, zero, suc, _+_, _*_, _≤_, _<_}
-use mathlib.Core.Path.{_≡_, refl, subst, ap, sym}
+use mathlib.Core.Path.{_≡_, subst}
 use mathlib.Core.Logic.{_⊎_, inl, inr, _≢_}
 use native.Mathlib.Omega.{arith}
 use native.Mathlib.Nat.{suc-mul}
@@ -20,12 +20,6 @@ sum-lt (suc n) f h le j k lt = go (λ b. sum-lt n f h (λ i c. le i (omega arith
     go : (j < n → sum n f < sum n h) → (j ≡ n) ⊎ (j ≢ n) → f n + sum n f < h n + sum n h
     go rest (inl e) = let l : f n < h n = subst (λ i. f i < h i) e lt in omega (arith, sum-le n f h (λ i c. le i (omega arith)))
     go rest (inr ne) = omega (arith, rest (omega arith), le n (omega arith))
-
--- as the two above, where the functions are equal
-pub sum-same : (n : ℕ) (f h : ℕ → ℕ) → ((i : ℕ) → i < n → f i ≡ h i) → sum n f ≡ sum n h
-unfolding sum
-sum-same zero f h e = refl
-sum-same (suc n) f h e = omega (arith, e n (omega arith), sum-same n f h (λ i k. e i (omega arith)))
 
 pub sum-all : (n : ℕ) (f : ℕ → ℕ) (c : ℕ) → ((i : ℕ) → i < n → f i ≤ c) → sum n f ≤ n * c
 unfolding sum

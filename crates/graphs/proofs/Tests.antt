@@ -41,16 +41,6 @@ pub and-cases : (a b : Bool) → (a && b) ≡ true → (a ≡ true) × (b ≡ tr
 and-cases true b e = (refl, e)
 and-cases false b e = absurd (clash e refl)
 
-pub and-both : (a b : Bool) → a ≡ true → b ≡ true → (a && b) ≡ true
-and-both a b p q = rw (p, q)
-
-pub and-not-left : (a b : Bool) → a ≡ false → (a && b) ≡ false
-and-not-left a b e = rw e
-
-pub and-not-right : (a b : Bool) → b ≡ false → (a && b) ≡ false
-and-not-right true b e = e
-and-not-right false b e = refl
-
 -- what the arms of `if !f(..)` know of b, where f says that its result is b
 pub if-not : {r b : Bool} → r ≡ b → not r ≡ true → b ≡ false
 if-not {r} e t = sym e ∙ not-true r t

@@ -1,6 +1,5 @@
 -- Laws of walks: joined, made longer by a step, and staying among the states.
 use Prim.Native.Nat.{ℕ, _<_}
-use mathlib.Core.List.{List}
 use Rattle.graphs.specs.Graph.{Graph, Edge, Walk, stay, step, Far, Sound}
 
 module _ {g : Graph} where

@@ -1,22 +1,21 @@
 -- What `isGraph` says, part by part; that words which are a graph give a sound graph; and that its transitions are E in number.
 use Prim.Native.Nat.{ℕ, zero, suc, _+_, _-_, _<_, _≤_}
-use mathlib.Core.Path.{_≡_, refl, sym, ap, _∙_}
-use mathlib.Core.Bool.{Bool, true, false, not, _&&_}
+use mathlib.Core.Path.{_≡_, sym, ap, _∙_}
+use mathlib.Core.Bool.{true, not, _&&_}
 use mathlib.Core.List.{List}
 use mathlib.Core.Logic.{_⊎_, inl, inr, _≢_}
 use lib.Dec.{leb, ltb, eqb}
-use lib.ListN.{length, getD, take, drop, length-take, length-drop}
+use lib.ListN.{length, getD, drop, length-take, length-drop}
 use native.Mathlib.Nat.{le-refl}
 use native.Mathlib.Omega.{arith}
 use native.Mathlib.Numerals.{add-one}
 use borrow.Author.Tests.{leb-true, ltb-true, eqb-true, le-leb, lt-ltb, eq-eqb, not-true}
-use Rattle.graphs.specs.Lists.{Mem, Once, every, sum, repeats}
-use Rattle.graphs.specs.Graph.{Graph, graph, edges, Sound}
+use Rattle.graphs.specs.Lists.{Mem, Once, sum, repeats}
+use Rattle.graphs.specs.Graph.{graph, edges, Sound}
 use Rattle.graphs.specs.Words.{successors, marked, graphOf, sizesFit, offsetsSpan, neverFalling, allBelow, noneTwice, isGraph}
-use Rattle.graphs.proofs.Tests.{and-cases, and-both, same?}
+use Rattle.graphs.proofs.Tests.{and-cases, same?}
 use Rattle.graphs.proofs.Member.{mem-take, mem-drop, mem-place}
 use Rattle.graphs.proofs.Every.{every-at, every-of}
-use Rattle.graphs.proofs.Sum.{sum-same}
 use Rattle.graphs.proofs.Once.{once-repeats, repeats-once}
 use Rattle.graphs.proofs.Order.{graph-sound}
 

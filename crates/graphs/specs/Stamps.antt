@@ -1,7 +1,7 @@
 -- What the private functions of src/checks.rt that look for a repeated target ask and promise. No public contract cites this page.
 use Prim.Native.Nat.{ℕ, _+_, _<_, _≤_}
 use mathlib.Core.Path.{_≡_}
-use mathlib.Core.Bool.{Bool, true, not}
+use mathlib.Core.Bool.{Bool, not}
 use mathlib.Core.List.{List}
 use lib.ListN.{length, getD}
 use Rattle.graphs.specs.Lists.{repeats}

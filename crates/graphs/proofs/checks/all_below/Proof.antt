@@ -34,7 +34,9 @@ wide-requires c κs = search needs
 
 returns : tie.Need-returns Inv-loop μ-loop
 unfolding allBelow
-returns c = sym (every-not _ _ _ (c .before .before .before .loop-test .taken) (le-ltb _ _ (rw (c .before .wide .ensures) at (c .if1 .taken))))
+returns c =
+    let turn = c .before .before .before in
+    sym (every-not _ _ _ (turn .loop-test .taken) (le-ltb _ _ (rw (c .before .wide .ensures) at (c .if1 .taken))))
 
 add-k : tie.Need-add-k Inv-loop μ-loop
 add-k c = search needs
@@ -43,11 +45,15 @@ loop-less : tie.Need-loop-less Inv-loop μ-loop
 loop-less c = search needs
 
 loop-again : tie.Need-loop-again Inv-loop μ-loop
-loop-again c = (search needs, every-more _ _ (c .before .before .before .before .loop .inv .1) (lt-ltb _ _ (rw (c .before .wide .ensures) at (c .if1 .left))))
+loop-again c =
+    let head = c .before .before .before .before in
+    (search needs, every-more _ _ (head .loop .inv .1) (lt-ltb _ _ (rw (c .before .wide .ensures) at (c .if1 .left))))
 
 returns-2 : tie.Need-returns-2 Inv-loop μ-loop
 unfolding allBelow
-returns-2 c = let e : c .before .loop .k ≡ length (c .before .before .before .args .words .now) = omega arith in sym (rw e at (c .before .loop .inv .1))
+returns-2 c =
+    let start = c .before .before .before in
+    let e : c .before .loop .k ≡ length (start .args .words .now) = omega arith in sym (rw e at (c .before .loop .inv .1))
 
 pub all-below-spec : {M : Type 1} → statement M
 all-below-spec =

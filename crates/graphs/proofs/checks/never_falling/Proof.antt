@@ -37,7 +37,9 @@ shared-slice-read-high c = search needs
 
 returns : tie.Need-returns Inv-loop μ-loop
 unfolding neverFalling
-returns c = sym (every-not _ _ _ (c .before .before .before .loop-test .taken) (lt-leb _ _ (c .if1 .taken)))
+returns c =
+    let turn = c .before .before .before in
+    sym (every-not _ _ _ (turn .loop-test .taken) (lt-leb _ _ (c .if1 .taken)))
 
 add-s : tie.Need-add-s Inv-loop μ-loop
 add-s c = search needs
@@ -47,10 +49,14 @@ loop-less c = search needs
 
 loop-again : tie.Need-loop-again Inv-loop μ-loop
 unfolding neverFalling
-loop-again c = (search needs, every-more _ _ (c .before .before .before .before .loop .inv .1) (le-leb _ _ (c .if1 .left)))
+loop-again c =
+    let head = c .before .before .before .before in
+    (search needs, every-more _ _ (head .loop .inv .1) (le-leb _ _ (c .if1 .left)))
 
 returns-2 : tie.Need-returns-2 Inv-loop μ-loop
-returns-2 c = let e : c .before .loop .s ≡ c .before .before .args .n = search needs in sym (rw e at (c .before .loop .inv .1))
+returns-2 c =
+    let start = c .before .before in
+    let e : c .before .loop .s ≡ start .args .n = search needs in sym (rw e at (c .before .loop .inv .1))
 
 pub never-falling-spec : {M : Type 1} → statement M
 never-falling-spec =

@@ -30,7 +30,9 @@ wide-requires c κs = search needs
 
 returns-3 : tie.Need-returns-3
 unfolding offsetsSpan
-returns-3 c = rw (eq-eqb _ _ (c .before .before .before .before .if1 .left), eq-eqb _ _ (c .before .before .if2 .left), c .wide .ensures)
+returns-3 c =
+    let at-if1 = c .before .before .before .before in
+    rw (eq-eqb _ _ (at-if1 .if1 .left), eq-eqb _ _ (c .before .before .if2 .left), c .wide .ensures)
 
 pub offsets-span-spec : {M : Type 1} → statement M
 offsets-span-spec =

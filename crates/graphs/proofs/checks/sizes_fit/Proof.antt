@@ -11,11 +11,15 @@ returns c = rw (lt-leb 1 (c .before .args .n) (c .if1 .taken))
 
 returns-2 : tie.Need-returns-2
 unfolding sizesFit
-returns-2 c = rw (le-leb 1 (c .before .before .args .n) (omega arith), lt-leb (c .before .before .args .n) 4096 (c .if2 .taken))
+returns-2 c =
+    let start = c .before .before in
+    rw (le-leb 1 (start .args .n) (omega arith), lt-leb (start .args .n) 4096 (c .if2 .taken))
 
 returns-3 : tie.Need-returns-3
 unfolding sizesFit
-returns-3 c = rw (le-leb 1 (c .before .before .args .n) (omega arith), le-leb (c .before .before .args .n) 4096 (omega arith))
+returns-3 c =
+    let start = c .before .before in
+    rw (le-leb 1 (start .args .n) (omega arith), le-leb (start .args .n) 4096 (omega arith))
 
 pub sizes-fit-spec : {M : Type 1} → statement M
 sizes-fit-spec = tie.close (tie.spec returns returns-2 returns-3)

@@ -31,17 +31,23 @@ add-stamp-all : tie.Need-add-stamp-all
 add-stamp-all c = search needs
 
 stamp-all-requires : tie.Need-stamp-all-requires
-stamp-all-requires c κs = record {
-  inside = part-below (c .before .before .before .before .before .before .before .args .targets .now) (c .before .before .before .word .result) (c .before .before .word2 .result - c .before .before .before .word .result) _ (c .before .before .before .before .before .before .before .pre .inside);
-  fresh = c .before .before .before .before .before .before .before .pre .fresh;
-}
+stamp-all-requires c κs =
+    let at-word = c .before .before .before in
+    let start = at-word .before .before .before .before in
+    record {
+      inside = part-below (start .args .targets .now) (at-word .word .result) (c .before .before .word2 .result - at-word .word .result) _ (start .pre .inside);
+      fresh = start .pre .fresh;
+    }
 
 same-length : tie.Need-same-length
 same-length c = search needs
 
 returns : tie.Need-returns
 unfolding successors
-returns c = rw (c .before .before .before .before .before .before .word .ensures, c .before .before .before .before .before .word2 .ensures) at (c .before .before .stamp-all .ensures)
+returns c =
+    let at-word2 = c .before .before .before .before .before in
+    let at-word = at-word2 .before in
+    rw (at-word .word .ensures, at-word2 .word2 .ensures) at (c .before .before .stamp-all .ensures)
 
 pub stamp-source-spec : {M : Type 1} → statement M
 stamp-source-spec =
