@@ -12,10 +12,10 @@ pub fn sizes_fit(n: usize, e: usize) -> bool
     if n < 1 {
         return false;
     }
-    if 4096 < n {
+    if crate::MOST_STATES < n {
         return false;
     }
-    e <= 16384
+    e <= crate::MOST_TRANSITIONS
 }
 
 // 01: "there are N+1 offsets, first 0, last E"
@@ -68,7 +68,7 @@ pub fn none_twice(offsets: &[u16], targets: &[u16], n: usize) -> bool
     requires { ⌜ Fit (now offsets) (now targets) n ⌝ }
     ensures { λ r. ⌜ r ≡ noneTwice (now (offsets .entry)) (now (targets .entry)) n ⌝ }
 {
-    let mut space = [0u16; 4096];
+    let mut space = [0u16; crate::MOST_STATES];
     let table: &mut [u16] = &mut space;
     let mut s: u16 = 0;
     while wide(s) < n {

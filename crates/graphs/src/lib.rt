@@ -9,6 +9,11 @@ use checks::sizes_fit;
 ghost use mathlib.Core.Path.{_≡_};
 ghost use Rattle.graphs.specs.Words.{isGraph};
 
+// The most states and transitions that a graph has.
+pub const MOST_STATES: usize = 4096;
+
+pub const MOST_TRANSITIONS: usize = 16384;
+
 // 01: "Words are a graph if ..". Any words of any lengths; the time is in proportion to N + E.
 pub fn is_graph(offsets: &[u16], targets: &[u16], flags: &[u16]) -> bool
     ensures { λ r. ⌜ r ≡ isGraph (now (offsets .entry)) (now (targets .entry)) (now (flags .entry)) ⌝ }

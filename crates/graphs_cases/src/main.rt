@@ -1,8 +1,5 @@
 // Runs `is_graph` on words that are a graph, and on words that break each clause of refusal 10 at its edge, and prints what it says.
-mod large;
-
-use large::offsets;
-use large::targets;
+ghost use mathlib.Core.Path.{_≡_};
 ghost use Prim.Native.Nat.{_<_, _≤_};
 ghost use lib.ListN.{length};
 
@@ -13,9 +10,9 @@ fn main() {
     sizes();
 }
 
-// Prints one case.
-fn say(name: &[u8], answer: bool) {
-    if answer {
+// Prints what `is_graph` says of the words.
+fn case(name: &[u8], offsets: &[u16], targets: &[u16], flags: &[u16]) {
+    if graphs::is_graph(offsets, targets, flags) {
         io::write_all(1, b"graph\t");
     } else {
         io::write_all(1, b"no graph\t");
@@ -26,103 +23,72 @@ fn say(name: &[u8], answer: bool) {
 
 // 01's small graphs, and lists of no words.
 fn small() {
-    say(
-        b"one state, no transition",
-        graphs::is_graph(&[0, 0], &[0u16; 1][..0], &[0]),
-    );
-    say(
+    case(b"one state, no transition", &[0, 0], &[], &[0]);
+    case(
         b"one marked state that leads to itself",
-        graphs::is_graph(&[0, 1], &[0], &[1]),
+        &[0, 1],
+        &[0],
+        &[1],
     );
-    say(
+    case(
         b"0417 leads to 417, which leads to itself",
-        graphs::is_graph(&[0, 1, 2], &[1, 1], &[0, 1]),
+        &[0, 1, 2],
+        &[1, 1],
+        &[0, 1],
     );
-    say(
+    case(
         b"a state without transitions before one with two",
-        graphs::is_graph(&[0, 0, 2], &[0, 1], &[0, 1]),
+        &[0, 0, 2],
+        &[0, 1],
+        &[0, 1],
     );
-    say(
+    case(
         b"two states that share both targets",
-        graphs::is_graph(&[0, 2, 4], &[1, 0, 1, 0], &[1, 1]),
+        &[0, 2, 4],
+        &[1, 0, 1, 0],
+        &[1, 1],
     );
-    say(
-        b"no words at all",
-        graphs::is_graph(&[0u16; 1][..0], &[0u16; 1][..0], &[0u16; 1][..0]),
-    );
-    say(
-        b"no state, one offset",
-        graphs::is_graph(&[0], &[0u16; 1][..0], &[0u16; 1][..0]),
-    );
-    say(
-        b"no offset, one state",
-        graphs::is_graph(&[0u16; 1][..0], &[0u16; 1][..0], &[0]),
-    );
+    case(b"no words at all", &[], &[], &[]);
+    case(b"no state, one offset", &[0], &[], &[]);
+    case(b"no offset, one state", &[], &[], &[0]);
 }
 
 fn wrong_offsets() {
-    say(
-        b"an offset too few",
-        graphs::is_graph(&[0, 2], &[0, 1], &[0, 0]),
-    );
-    say(
-        b"an offset too many",
-        graphs::is_graph(&[0, 1, 2, 2], &[0, 1], &[0, 0]),
-    );
-    say(
-        b"the first offset is 1",
-        graphs::is_graph(&[1, 1, 2], &[0, 1], &[0, 0]),
-    );
-    say(
-        b"the last offset is below E",
-        graphs::is_graph(&[0, 1, 1], &[0, 1], &[0, 0]),
-    );
-    say(
-        b"the last offset is above E",
-        graphs::is_graph(&[0, 1, 3], &[0, 1], &[0, 0]),
-    );
-    say(
-        b"offsets that fall",
-        graphs::is_graph(&[0, 2, 1, 2], &[0, 1], &[0, 0, 0]),
-    );
-    say(
+    case(b"an offset too few", &[0, 2], &[0, 1], &[0, 0]);
+    case(b"an offset too many", &[0, 1, 2, 2], &[0, 1], &[0, 0]);
+    case(b"the first offset is 1", &[1, 1, 2], &[0, 1], &[0, 0]);
+    case(b"the last offset is below E", &[0, 1, 1], &[0, 1], &[0, 0]);
+    case(b"the last offset is above E", &[0, 1, 3], &[0, 1], &[0, 0]);
+    case(b"offsets that fall", &[0, 2, 1, 2], &[0, 1], &[0, 0, 0]);
+    case(
         b"offsets that fall, past E first",
-        graphs::is_graph(&[0, 65535, 2], &[0, 1], &[0, 0]),
+        &[0, 65535, 2],
+        &[0, 1],
+        &[0, 0],
     );
-    say(
-        b"offsets that stand",
-        graphs::is_graph(&[0, 2, 2, 2], &[0, 1], &[0, 0, 0]),
-    );
+    case(b"offsets that stand", &[0, 2, 2, 2], &[0, 1], &[0, 0, 0]);
 }
 
 fn wrong_targets_and_flags() {
-    say(
-        b"the last state as a target",
-        graphs::is_graph(&[0, 1, 1], &[1], &[0, 0]),
-    );
-    say(b"target N", graphs::is_graph(&[0, 1, 1], &[2], &[0, 0]));
-    say(
-        b"target 65535",
-        graphs::is_graph(&[0, 1, 1], &[65535], &[0, 0]),
-    );
-    say(
-        b"a target twice in a row",
-        graphs::is_graph(&[0, 2, 2], &[1, 1], &[0, 0]),
-    );
-    say(
+    case(b"the last state as a target", &[0, 1, 1], &[1], &[0, 0]);
+    case(b"target N", &[0, 1, 1], &[2], &[0, 0]);
+    case(b"target 65535", &[0, 1, 1], &[65535], &[0, 0]);
+    case(b"a target twice in a row", &[0, 2, 2], &[1, 1], &[0, 0]);
+    case(
         b"a target twice with one between",
-        graphs::is_graph(&[0, 0, 3], &[0, 1, 0], &[0, 0]),
+        &[0, 0, 3],
+        &[0, 1, 0],
+        &[0, 0],
     );
-    say(
+    case(
         b"a target at the end of a state and the start of the next",
-        graphs::is_graph(&[0, 2, 4], &[0, 1, 1, 0], &[0, 0]),
+        &[0, 2, 4],
+        &[0, 1, 1, 0],
+        &[0, 0],
     );
-    say(b"flag 1", graphs::is_graph(&[0, 0], &[0u16; 1][..0], &[1]));
-    say(b"flag 2", graphs::is_graph(&[0, 0], &[0u16; 1][..0], &[2]));
-    say(
-        b"flag 65535 last",
-        graphs::is_graph(&[0, 0, 0], &[0u16; 1][..0], &[1, 65535]),
-    );
+    case(b"flag 1", &[0, 0], &[], &[1]);
+    case(b"flag 2", &[0, 0], &[], &[2]);
+    case(b"flag 65535 last", &[0, 0, 0], &[], &[1, 65535]);
 }
 
 // The largest graph, and one state or one transition more.
@@ -147,6 +113,31 @@ fn sizes() {
 fn sized(name: &[u8], o: &[u16], t: &[u16], f: &[u16], n: usize, e: usize)
     requires { ⌜ (n < length (now o)) × (e ≤ length (now t)) × (n ≤ length (now f)) ⌝ }
 {
-    let offsets = n + 1;
-    say(name, graphs::is_graph(&o[..offsets], &t[..e], &f[..n]));
+    let count = n + 1;
+    case(name, &o[..count], &t[..e], &f[..n]);
+}
+
+// The words of a large graph, with room for a state or a transition more: s leads to s, s + 5, s + 10 and s + 15, in a ring of 4,096.
+fn offsets(last: u16) -> [u16; 4098]
+    ensures { λ r. ⌜ 4098 ≡ length r ⌝ }
+{
+    let mut offsets = [last; 4098];
+    let mut s = 0;
+    while s < 4096 {
+        offsets[s] = (s * 4) as u16;
+        s += 1;
+    }
+    offsets
+}
+
+fn targets() -> [u16; 16385]
+    ensures { λ r. ⌜ 16385 ≡ length r ⌝ }
+{
+    let mut targets = [0u16; 16385];
+    let mut k = 0;
+    while k < 16385 {
+        targets[k] = ((k / 4 + k % 4 * 5) % 4096) as u16;
+        k += 1;
+    }
+    targets
 }

@@ -3,8 +3,8 @@ use Prim.Native.Nat.{_≤_, _-_}
 use mathlib.Core.Path.{_≡_}
 use lib.ListN.{length}
 use borrow.Author.Needs.{needs}
-use Rattle.graphs_cases.proofs.large.targets.Statement.{statement}
-use Rattle.graphs_cases.proofs.large.targets.Tie as tie
+use Rattle.graphs_cases.proofs.targets.Statement.{statement}
+use Rattle.graphs_cases.proofs.targets.Tie as tie
 
 abbrev Inv-loop : tie.InvT-loop
 Inv-loop targets₀ k₀ targets k = (k ≤ 16385) × (16385 ≡ length targets)

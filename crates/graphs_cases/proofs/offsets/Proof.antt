@@ -3,8 +3,8 @@ use Prim.Native.Nat.{_≤_, _-_}
 use mathlib.Core.Path.{_≡_}
 use lib.ListN.{length}
 use borrow.Author.Needs.{needs}
-use Rattle.graphs_cases.proofs.large.offsets.Statement.{statement}
-use Rattle.graphs_cases.proofs.large.offsets.Tie as tie
+use Rattle.graphs_cases.proofs.offsets.Statement.{statement}
+use Rattle.graphs_cases.proofs.offsets.Tie as tie
 
 abbrev Inv-loop : tie.InvT-loop
 Inv-loop last offsets₀ s₀ offsets s = (s ≤ 4096) × (4098 ≡ length offsets)
