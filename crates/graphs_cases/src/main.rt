@@ -4,9 +4,15 @@ ghost use Prim.Native.Nat.{_<_, _≤_};
 ghost use lib.ListN.{length};
 
 fn main() {
-    small();
-    wrong_offsets();
-    wrong_targets_and_flags();
+    one_state();
+    two_states();
+    no_words();
+    number_of_offsets();
+    ends_of_offsets();
+    falling_offsets();
+    targets_at_n();
+    targets_twice();
+    flags();
     sizes();
 }
 
@@ -21,8 +27,8 @@ fn case(name: &[u8], offsets: &[u16], targets: &[u16], flags: &[u16]) {
     io::write_all(1, b"\n");
 }
 
-// 01's small graphs, and lists of no words.
-fn small() {
+// 01's small graphs.
+fn one_state() {
     case(b"one state, no transition", &[0, 0], &[], &[0]);
     case(
         b"one marked state that leads to itself",
@@ -30,6 +36,9 @@ fn small() {
         &[0],
         &[1],
     );
+}
+
+fn two_states() {
     case(
         b"0417 leads to 417, which leads to itself",
         &[0, 1, 2],
@@ -48,17 +57,26 @@ fn small() {
         &[1, 0, 1, 0],
         &[1, 1],
     );
+}
+
+fn no_words() {
     case(b"no words at all", &[], &[], &[]);
     case(b"no state, one offset", &[0], &[], &[]);
     case(b"no offset, one state", &[], &[], &[0]);
 }
 
-fn wrong_offsets() {
+fn number_of_offsets() {
     case(b"an offset too few", &[0, 2], &[0, 1], &[0, 0]);
     case(b"an offset too many", &[0, 1, 2, 2], &[0, 1], &[0, 0]);
+}
+
+fn ends_of_offsets() {
     case(b"the first offset is 1", &[1, 1, 2], &[0, 1], &[0, 0]);
     case(b"the last offset is below E", &[0, 1, 1], &[0, 1], &[0, 0]);
     case(b"the last offset is above E", &[0, 1, 3], &[0, 1], &[0, 0]);
+}
+
+fn falling_offsets() {
     case(b"offsets that fall", &[0, 2, 1, 2], &[0, 1], &[0, 0, 0]);
     case(
         b"offsets that fall, past E first",
@@ -69,10 +87,13 @@ fn wrong_offsets() {
     case(b"offsets that stand", &[0, 2, 2, 2], &[0, 1], &[0, 0, 0]);
 }
 
-fn wrong_targets_and_flags() {
+fn targets_at_n() {
     case(b"the last state as a target", &[0, 1, 1], &[1], &[0, 0]);
     case(b"target N", &[0, 1, 1], &[2], &[0, 0]);
     case(b"target 65535", &[0, 1, 1], &[65535], &[0, 0]);
+}
+
+fn targets_twice() {
     case(b"a target twice in a row", &[0, 2, 2], &[1, 1], &[0, 0]);
     case(
         b"a target twice with one between",
@@ -86,6 +107,9 @@ fn wrong_targets_and_flags() {
         &[0, 1, 1, 0],
         &[0, 0],
     );
+}
+
+fn flags() {
     case(b"flag 1", &[0, 0], &[], &[1]);
     case(b"flag 2", &[0, 0], &[], &[2]);
     case(b"flag 65535 last", &[0, 0, 0], &[], &[1, 65535]);
