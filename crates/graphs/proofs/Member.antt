@@ -34,12 +34,7 @@ mem-take x k l h = rw (take-append-drop k l) at (mem-left x (take k l) (drop k l
 pub mem-drop : (x k : ℕ) (l : List ℕ) → Mem x (drop k l) → Mem x l
 mem-drop x k l h = rw (take-append-drop k l) at (mem-right x (take k l) (drop k l) h)
 
--- what stands at a place below the length is a member, and every member stands at one
-pub mem-at : (l : List ℕ) (i : ℕ) → i < length l → Mem (getD l i 0) l
-mem-at [] i h = absurd (omega arith)
-mem-at (x ∷ l) zero h = inl refl
-mem-at (x ∷ l) (suc i) h = inr (mem-at l i (omega arith))
-
+-- every member stands at a place below the length
 pub mem-place : (x : ℕ) (l : List ℕ) → Mem x l → (i : ℕ) × (i < length l) × (getD l i 0 ≡ x)
 mem-place x (y ∷ l) (inl e) = (0, omega arith, sym e)
 mem-place x (y ∷ l) (inr h) = let p = mem-place x l h in (suc (p .0), omega (arith, p .1), p .2)

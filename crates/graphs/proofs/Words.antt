@@ -1,10 +1,10 @@
 -- What `isGraph` says, part by part; that words which are a graph give a sound graph; and that its transitions are E in number.
 use Prim.Native.Nat.{ℕ, zero, suc, _+_, _-_, _<_, _≤_}
 use mathlib.Core.Path.{_≡_, sym, ap, _∙_}
-use mathlib.Core.Bool.{true, not, _&&_}
+use mathlib.Core.Bool.{true, not}
 use mathlib.Core.List.{List}
 use mathlib.Core.Logic.{_⊎_, inl, inr, _≢_}
-use lib.Dec.{leb, ltb, eqb}
+use lib.Dec.{leb, ltb}
 use lib.ListN.{length, getD, drop, length-take, length-drop}
 use native.Mathlib.Nat.{le-refl}
 use native.Mathlib.Omega.{arith}
@@ -12,7 +12,7 @@ use native.Mathlib.Numerals.{add-one}
 use borrow.Author.Tests.{leb-true, ltb-true, eqb-true, le-leb, lt-ltb, eq-eqb, not-true}
 use Rattle.graphs.specs.Lists.{Mem, Once, sum, repeats}
 use Rattle.graphs.specs.Graph.{graph, edges, Sound}
-use Rattle.graphs.specs.Words.{successors, marked, graphOf, sizesFit, offsetsSpan, neverFalling, allBelow, noneTwice, isGraph}
+use Rattle.graphs.specs.Words.{successors, marked, graphOf, most-states, most-transitions, sizesFit, offsetsSpan, neverFalling, allBelow, noneTwice, isGraph}
 use Rattle.graphs.proofs.Tests.{and-cases, same?}
 use Rattle.graphs.proofs.Member.{mem-take, mem-drop, mem-place}
 use Rattle.graphs.proofs.Every.{every-at, every-of}
@@ -22,8 +22,8 @@ use Rattle.graphs.proofs.Order.{graph-sound}
 -- the parts of `isGraph`, as statements
 pub record IsGraph (offsets targets flags : List ℕ) : Type 0 where
   pub some : 1 ≤ length flags
-  pub few : length flags ≤ 4096
-  pub short : length targets ≤ 16384
+  pub few : length flags ≤ most-states
+  pub short : length targets ≤ most-transitions
   pub count : length offsets ≡ length flags + 1
   pub first : getD offsets 0 0 ≡ 0
   pub last : getD offsets (length flags) 0 ≡ length targets
@@ -32,19 +32,19 @@ pub record IsGraph (offsets targets flags : List ℕ) : Type 0 where
   pub apart : (s : ℕ) → s < length flags → Once (successors offsets targets s)
   pub bits : (s : ℕ) → s < length flags → getD flags s 0 < 2
 
-pub sizes-are : (n e : ℕ) → sizesFit n e ≡ true → (1 ≤ n) × (n ≤ 4096) × (e ≤ 16384)
+pub sizes-are : (n e : ℕ) → sizesFit n e ≡ true → (1 ≤ n) × (n ≤ most-states) × (e ≤ most-transitions)
 unfolding sizesFit
 sizes-are n e t =
-    let a = and-cases (leb 1 n && leb n 4096) (leb e 16384) t in
-    let b = and-cases (leb 1 n) (leb n 4096) (a .0) in
-    (leb-true 1 n (b .0), leb-true n 4096 (b .1), leb-true e 16384 (a .1))
+    let a = and-cases _ _ t in
+    let b = and-cases _ _ (a .0) in
+    (leb-true 1 n (b .0), leb-true n most-states (b .1), leb-true e most-transitions (a .1))
 
 pub span-are : (offsets : List ℕ) (n e : ℕ) → offsetsSpan offsets n e ≡ true
     → (length offsets ≡ n + 1) × (getD offsets 0 0 ≡ 0) × (getD offsets n 0 ≡ e)
 unfolding offsetsSpan
 span-are offsets n e t =
-    let a = and-cases (eqb (length offsets) (n + 1) && eqb (getD offsets 0 0) 0) (eqb (getD offsets n 0) e) t in
-    let b = and-cases (eqb (length offsets) (n + 1)) (eqb (getD offsets 0 0) 0) (a .0) in
+    let a = and-cases _ _ t in
+    let b = and-cases _ _ (a .0) in
     (eqb-true (length offsets) (n + 1) (b .0), eqb-true (getD offsets 0 0) 0 (b .1), eqb-true (getD offsets n 0) e (a .1))
 
 pub rising-at : (offsets : List ℕ) (n : ℕ) → neverFalling offsets n ≡ true → (s : ℕ) → s < n → getD offsets s 0 ≤ getD offsets (s + 1) 0
@@ -75,11 +75,11 @@ module _ (offsets targets flags : List ℕ) where
   words-are t =
       let n = length flags in
       let e = length targets in
-      let flagged = and-cases (sizesFit n e && offsetsSpan offsets n e && neverFalling offsets n && allBelow targets n && noneTwice offsets targets n) (allBelow flags 2) t in
-      let apart = and-cases (sizesFit n e && offsetsSpan offsets n e && neverFalling offsets n && allBelow targets n) (noneTwice offsets targets n) (flagged .0) in
-      let below = and-cases (sizesFit n e && offsetsSpan offsets n e && neverFalling offsets n) (allBelow targets n) (apart .0) in
-      let rising = and-cases (sizesFit n e && offsetsSpan offsets n e) (neverFalling offsets n) (below .0) in
-      let sized = and-cases (sizesFit n e) (offsetsSpan offsets n e) (rising .0) in
+      let flagged = and-cases _ _ t in
+      let apart = and-cases _ _ (flagged .0) in
+      let below = and-cases _ _ (apart .0) in
+      let rising = and-cases _ _ (below .0) in
+      let sized = and-cases _ _ (rising .0) in
       let sizes = sizes-are n e (sized .0) in
       let span = span-are offsets n e (sized .1) in
       record {

@@ -5,10 +5,11 @@ use mathlib.Core.Bool.{Bool, not}
 use mathlib.Core.List.{List}
 use lib.ListN.{length, getD}
 use Rattle.graphs.specs.Lists.{repeats}
+use Rattle.graphs.specs.Words.{most-states}
 
 -- n + 1 offsets never fall and end at the number of targets, and the targets are below n
 pub record Fit (offsets targets : List ℕ) (n : ℕ) : Type 0 where
-  pub few : n ≤ 4096
+  pub few : n ≤ most-states
   pub count : length offsets ≡ n + 1
   pub last : getD offsets n 0 ≡ length targets
   pub rising : (s : ℕ) → s < n → getD offsets s 0 ≤ getD offsets (s + 1) 0
@@ -16,7 +17,7 @@ pub record Fit (offsets targets : List ℕ) (n : ℕ) : Type 0 where
 
 -- the offsets of s and s + 1 bound a part of the targets, those are places of the table, and no place has the stamp of s or one above it
 pub record Ready (table offsets targets : List ℕ) (s : ℕ) : Type 0 where
-  pub small : s < 4096
+  pub small : s < most-states
   pub count : s + 1 < length offsets
   pub rises : getD offsets s 0 ≤ getD offsets (s + 1) 0
   pub ends : getD offsets (s + 1) 0 ≤ length targets

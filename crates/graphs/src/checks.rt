@@ -2,7 +2,7 @@
 ghost use mathlib.Core.Path.{_≡_};
 ghost use Prim.Native.Nat.{_+_, _<_, _≤_};
 ghost use lib.ListN.{length, getD};
-ghost use Rattle.graphs.specs.Words.{sizesFit, offsetsSpan, neverFalling, allBelow, noneTwice, successors};
+ghost use Rattle.graphs.specs.Words.{most-states, sizesFit, offsetsSpan, neverFalling, allBelow, noneTwice, successors};
 ghost use Rattle.graphs.specs.Stamps.{Fit, Ready, Blank, Stamped};
 
 // 01: "N .. is 1 to 4,096; E .. is at most 16,384"
@@ -20,7 +20,7 @@ pub fn sizes_fit(n: usize, e: usize) -> bool
 
 // 01: "there are N+1 offsets, first 0, last E"
 pub fn offsets_span(offsets: &[u16], n: usize, e: usize) -> bool
-    requires { ⌜ n ≤ 4096 ⌝ }
+    requires { ⌜ n ≤ most-states ⌝ }
     ensures { λ r. ⌜ r ≡ offsetsSpan (now (offsets .entry)) n e ⌝ }
 {
     if offsets.len() != n + 1 {

@@ -36,7 +36,9 @@ returns : tie.Need-returns Inv-loop μ-loop
 unfolding allBelow
 returns c =
     let turn = c .before .before .before in
-    sym (every-not _ _ _ (turn .loop-test .taken) (le-ltb _ _ (rw (c .before .wide .ensures) at (c .if1 .taken))))
+    let head = turn .before in
+    let start = head .before .before in
+    sym (every-not _ _ _ (turn .loop-test .taken) (le-ltb (getD (start .args .words .now) (head .loop .k) 0) (start .args .bound) (omega arith)))
 
 add-k : tie.Need-add-k Inv-loop μ-loop
 add-k c = search needs
@@ -47,7 +49,8 @@ loop-less c = search needs
 loop-again : tie.Need-loop-again Inv-loop μ-loop
 loop-again c =
     let head = c .before .before .before .before in
-    (search needs, every-more _ _ (head .loop .inv .1) (lt-ltb _ _ (rw (c .before .wide .ensures) at (c .if1 .left))))
+    let start = head .before .before in
+    (search needs, every-more _ _ (head .loop .inv .1) (lt-ltb (getD (start .args .words .now) (head .loop .k) 0) (start .args .bound) (omega arith)))
 
 returns-2 : tie.Need-returns-2 Inv-loop μ-loop
 unfolding allBelow

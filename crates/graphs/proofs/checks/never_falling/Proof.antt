@@ -1,7 +1,9 @@
 -- `never_falling` meets its contract. The offsets up to s have not fallen.
-use Prim.Native.Nat.{_-_, _≤_}
+use Prim.Native.Nat.{_+_, _-_, _≤_}
 use mathlib.Core.Bool.{true}
 use mathlib.Core.Path.{_≡_, refl, sym}
+use native.Mathlib.Omega.{arith}
+use lib.ListN.{getD}
 use borrow.Author.Needs.{needs}
 use borrow.Author.Tests.{le-leb, lt-leb}
 use Rattle.graphs.specs.Lists.{every}
@@ -39,7 +41,9 @@ returns : tie.Need-returns Inv-loop μ-loop
 unfolding neverFalling
 returns c =
     let turn = c .before .before .before in
-    sym (every-not _ _ _ (turn .loop-test .taken) (lt-leb _ _ (c .if1 .taken)))
+    let head = turn .before in
+    let start = head .before in
+    sym (every-not _ _ _ (turn .loop-test .taken) (lt-leb (getD (start .args .offsets .now) (head .loop .s) 0) (getD (start .args .offsets .now) (head .loop .s + 1) 0) (omega arith)))
 
 add-s : tie.Need-add-s Inv-loop μ-loop
 add-s c = search needs
@@ -51,7 +55,8 @@ loop-again : tie.Need-loop-again Inv-loop μ-loop
 unfolding neverFalling
 loop-again c =
     let head = c .before .before .before .before in
-    (search needs, every-more _ _ (head .loop .inv .1) (le-leb _ _ (c .if1 .left)))
+    let start = head .before in
+    (search needs, every-more _ _ (head .loop .inv .1) (le-leb (getD (start .args .offsets .now) (head .loop .s) 0) (getD (start .args .offsets .now) (head .loop .s + 1) 0) (omega arith)))
 
 returns-2 : tie.Need-returns-2 Inv-loop μ-loop
 returns-2 c =

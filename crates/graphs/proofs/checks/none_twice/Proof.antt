@@ -7,7 +7,7 @@ use native.Mathlib.Omega.{arith}
 use lib.ListN.{length, getD}
 use borrow.Author.Needs.{needs}
 use Rattle.graphs.specs.Lists.{every}
-use Rattle.graphs.specs.Words.{noneTwice}
+use Rattle.graphs.specs.Words.{most-states, noneTwice}
 use Rattle.graphs.proofs.Every.{every-more, every-not}
 use Rattle.graphs.proofs.Stamps.{zeroes-at}
 use Rattle.graphs.proofs.Tests.{if-not, if-so}
@@ -17,7 +17,7 @@ use Rattle.graphs.proofs.checks.none_twice.Tie as tie
 
 record Inv (offsets targets : List ℕ) (n : ℕ) (table : List ℕ) (s : ℕ) : Type 0 where
   inside : s ≤ n
-  long : length table ≡ 4096
+  long : length table ≡ most-states
   low : (x : ℕ) → getD table x 0 < s + 1
   apart : noneTwice offsets targets s ≡ true
 
@@ -32,7 +32,7 @@ slice-aggregate-table c = search needs
 
 loop-holds : tie.Need-loop-holds Inv-loop μ-loop
 unfolding noneTwice every
-loop-holds c = record { inside = search needs; long = refl; low = λ x. omega (arith, zeroes-at 4096 x); apart = refl }
+loop-holds c = record { inside = search needs; long = refl; low = λ x. omega (arith, zeroes-at most-states x); apart = refl }
 
 wide-requires : tie.Need-wide-requires Inv-loop μ-loop
 wide-requires c κs = search needs

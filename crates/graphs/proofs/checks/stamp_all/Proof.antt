@@ -15,8 +15,8 @@ use Rattle.graphs.proofs.checks.stamp_all.Tie as tie
 record Inv (table₀ targets : List ℕ) (stamp : ℕ) (table : List ℕ) (i : ℕ) : Type 0 where
   inside : i ≤ length targets
   long : length table ≡ length table₀
-  low : (x : ℕ) → getD table x 0 < stamp + 1
   rest : unseen (stamped table stamp) (drop i targets) ≡ not (repeats targets)
+  low : (x : ℕ) → getD table x 0 < stamp + 1
 
 abbrev Inv-loop : tie.InvT-loop
 Inv-loop table₀ targets stamp i₀ table i = Inv table₀ targets stamp table i
@@ -30,8 +30,8 @@ loop-holds c =
     record {
       inside = search needs;
       long = search needs;
-      low = λ x. omega (arith, start .pre .fresh x);
       rest = unseen-repeats _ _ (stamped-none _ _ (start .pre .fresh));
+      low = λ x. omega (arith, start .pre .fresh x);
     }
 
 mul-wide : tie.Need-mul-wide Inv-loop μ-loop
@@ -100,10 +100,10 @@ loop-again c =
     record {
       inside = search needs;
       long = simp length-set (head .loop .inv .long);
-      low = set-bound (head .loop .table) (c .before .before .wide .result) (start .args .stamp) _ (omega arith) (head .loop .inv .low);
       rest =
           rw (c .before .before .wide .ensures, stamped-set (head .loop .table) (start .args .stamp) t here)
           (sym (unseen-step _ _ (head .loop .i) (turn .loop-test .taken) (ne-eqb _ _ (rw (c .before .before .wide .ensures) at (c .if1 .left)))) ∙ head .loop .inv .rest);
+      low = set-bound (head .loop .table) (c .before .before .wide .result) (start .args .stamp) _ (omega arith) (head .loop .inv .low);
     }
 
 same-length-2 : tie.Need-same-length-2 Inv-loop μ-loop
