@@ -1,9 +1,9 @@
--- Laws of `sum` over the numbers below n: pointwise order, strictness at one place, and a bound.
+-- Laws of `sum` over the numbers below n: pointwise order, strictness at one place, a bound, and a sum of the same.
 use Prim.Native.Nat.{ℕ, zero, suc, _+_, _*_, _≤_, _<_}
 use mathlib.Core.Path.{_≡_, subst}
 use mathlib.Core.Logic.{_⊎_, inl, inr, _≢_}
 use native.Mathlib.Omega.{arith}
-use native.Mathlib.Nat.{suc-mul}
+use native.Mathlib.Nat.{suc-mul, le-of-lt}
 use Rattle.graphs.specs.Lists.{sum}
 use Rattle.graphs.proofs.Tests.{same?}
 
@@ -25,3 +25,16 @@ pub sum-all : (n : ℕ) (f : ℕ → ℕ) (c : ℕ) → ((i : ℕ) → i < n →
 unfolding sum
 sum-all zero f c le = omega arith
 sum-all (suc n) f c le = omega (arith, suc-mul n c, le n (omega arith), sum-all n f c (λ i k. le i (omega arith)))
+
+-- a sum falls that falls at s and rises nowhere else
+pub sum-falls : (n : ℕ) (f h : ℕ → ℕ) (s : ℕ) → s < n → f s < h s → ((t : ℕ) → t ≢ s → f t ≤ h t) → sum n f < sum n h
+sum-falls n f h s inside here there = sum-lt n f h (λ t k. go t (same? t s)) s inside here
+  where
+    go : (t : ℕ) → (t ≡ s) ⊎ (t ≢ s) → f t ≤ h t
+    go t (inl e) = rw e (le-of-lt here)
+    go t (inr ne) = there t ne
+
+pub sum-same : (n c : ℕ) → sum n (λ i. c) ≡ n * c
+unfolding sum
+sum-same zero c = omega arith
+sum-same (suc n) c = omega (arith, suc-mul n c, sum-same n c)

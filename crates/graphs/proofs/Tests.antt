@@ -1,10 +1,10 @@
 -- Laws of tests: a test that holds is written `b ≡ true`, and one that fails `b ≡ false`.
-use Prim.Native.Nat.{ℕ}
+use Prim.Native.Nat.{ℕ, _<_, _≤_}
 use mathlib.Core.Path.{_≡_, refl, sym, _∙_}
 use mathlib.Core.Bool.{Bool, true, false, not, _&&_, _||_}
 use mathlib.Core.Logic.{_⊎_, inl, inr, _≢_}
-use lib.Dec.{eqb}
-use borrow.Author.Tests.{eqb-true, eqb-false, not-true, not-false}
+use lib.Dec.{eqb, ltb}
+use borrow.Author.Tests.{eqb-true, eqb-false, ltb-true, ltb-false, not-true, not-false}
 use native.Mathlib.Omega.{arith}
 
 pub either : (b : Bool) → (b ≡ true) ⊎ (b ≡ false)
@@ -55,3 +55,11 @@ same? i j = go (either (eqb i j))
     go : (eqb i j ≡ true) ⊎ (eqb i j ≡ false) → (i ≡ j) ⊎ (i ≢ j)
     go (inl e) = inl (eqb-true i j e)
     go (inr e) = inr (eqb-false i j e)
+
+-- a number is below n or not
+pub below? : (i n : ℕ) → (i < n) ⊎ (n ≤ i)
+below? i n = go (either (ltb i n))
+  where
+    go : (ltb i n ≡ true) ⊎ (ltb i n ≡ false) → (i < n) ⊎ (n ≤ i)
+    go (inl e) = inl (ltb-true i n e)
+    go (inr e) = inr (ltb-false i n e)
