@@ -1,0 +1,8 @@
+-- The cases of 01; and the laws of the room, in the order in which they build on each other.
+pub mod Cases
+pub mod Settled
+pub mod Joined
+pub mod Tab
+pub mod Pile
+pub mod Room
+pub mod Stretch
