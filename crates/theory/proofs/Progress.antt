@@ -1,0 +1,199 @@
+-- The workers never all stand and wait: some worker can make a move that changes something, or all are done. If none could, each waiting worker's
+-- seed would lead by a step or more to the seed of a waiting worker, and after more such steps than there are workers some seed would come up
+-- twice and lie on a loop, which the seed of a waiting worker does not.
+use Prim.Native.Nat.{ℕ, zero, suc, _+_, _<_, _≤_}
+use mathlib.Core.Path.{_≡_, refl, subst, sym, _∙_}
+use mathlib.Core.Bool.{Bool, true, false, not, _&&_, _||_}
+use mathlib.Core.List.{List, [], _∷_}
+use mathlib.Core.Logic.{_⊎_, inl, inr, _≢_}
+use native.Mathlib.Omega.{arith}
+use lib.Dec.{eqb}
+use lib.ListN.{length}
+use borrow.Author.Tests.{not-true, not-false, eq-eqb}
+use Rattle.graphs.specs.Lists.{Mem, Once, elem}
+use Rattle.graphs.specs.Graph.{Graph, Walk, Far, Sound}
+use Rattle.graphs.proofs.Tests.{clash, either, below?, or-left, or-right, and-cases}
+use Rattle.graphs.proofs.Every.{find, every-fails}
+use Rattle.graphs.proofs.Member.{elem-mem, elem-not}
+use Rattle.graphs.proofs.Once.{once-bound}
+use Rattle.graphs.proofs.Walk.{walk-far, far-join, far-walk, edge-far}
+use Rattle.moves.specs.declared.Place.{Place}
+use Rattle.moves.specs.declared.Place.the-variants.{Fresh, Outer, Inner, Waiting, Done}
+use Rattle.moves.specs.Place.{isDone}
+use Rattle.moves.specs.Machine.{Machine}
+use Rattle.moves.specs.Moves.{Made, turn, othersRed}
+use Rattle.moves.specs.Tally.{changes}
+use Rattle.theory.specs.Rules.{Rule}
+use Rattle.theory.specs.Rules.{by-start, by-skip, by-enter, by-leave, by-seed, by-hit, by-pass, by-join, by-back, by-paint, by-wait, by-rest}
+use Rattle.theory.specs.Stacks.{Stacked}
+use Rattle.theory.specs.Invariant.{Within, here, onward, Hunt, Dead, SeedAt, Invariant}
+use Rattle.theory.proofs.Rules.{obeys}
+use Rattle.theory.proofs.Phase.{at}
+use Rattle.theory.proofs.Stacks.{mem-to, mem-nil}
+use Rattle.theory.proofs.Trail.{trail-from}
+use Rattle.theory.proofs.Depth.{within-walk}
+use Rattle.theory.proofs.Whole.{waiting-hunt, seed-on-no-loop}
+
+-- worker p, below P, waits with its seed for a state that is not red
+pub record Waits (g : Graph) (P : ℕ) (m : Machine) (p : ℕ) : Type 0 where
+  pub below : p < P
+  pub seed : ℕ
+  pub waits : m .worker p .place ≡ Waiting seed
+  pub blocked : othersRed g p m seed ≡ false
+
+pub is-done : (q : Place) → isDone q ≡ true → q ≡ Done
+is-done Fresh e = absurd (clash e refl)
+is-done Outer e = absurd (clash e refl)
+is-done (Inner z) e = absurd (clash e refl)
+is-done (Waiting z) e = absurd (clash e refl)
+is-done Done e = refl
+
+-- a move that changes nothing: the worker waits, or is done
+idle : {g : Graph} {P p : ℕ} {m : Machine} → p < P → (a : Made) → Rule g p m a → changes (a .move) ≡ false → Waits g P m p ⊎ (m .worker p .place ≡ Done)
+idle h _ (by-start ep) e = absurd (clash refl e)
+idle h _ (by-skip ep eo er c) e = absurd (clash refl e)
+idle h _ (by-enter ep eo er c) e = absurd (clash refl e)
+idle h _ (by-leave ep eo er c) e = absurd (clash refl e)
+idle h _ (by-seed ep eo er c) e = absurd (clash refl e)
+idle h _ (by-hit ep ei er c) e = absurd (clash refl e)
+idle h _ (by-pass ep ei er c r) e = absurd (clash refl e)
+idle h _ (by-join ep ei er c r) e = absurd (clash refl e)
+idle h _ (by-back ep ei er) e = absurd (clash refl e)
+idle h _ (by-paint ep eo c) e = absurd (clash refl e)
+idle h _ (by-wait {z} ep c) e = inl (record { below = h; seed = z; waits = ep; blocked = c })
+idle h _ (by-rest ep) e = inr ep
+
+module _ {g : Graph} (sound : Sound g) {P : ℕ} {m : Machine} (v : Invariant g P m) where
+  module _ (stuck : (q : ℕ) → q < P → Waits g P m q ⊎ (m .worker q .place ≡ Done)) where
+    -- a worker with a stack waits, and every state of the stack leads to its seed
+    holder : (q x : ℕ) → Mem x (m .worker q .outer) → (w : Waits g P m q) × Walk g x (w .seed)
+    holder q x n = go (below? q P)
+      where
+        up : (w : Waits g P m q) → Walk g x (w .seed)
+        up w = let h = waiting-hunt sound v (w .waits) in trail-from g 0 (w .seed) (h .under) (subst (Stacked g 0) (h .top) (v .local q .stacks .trail)) x (mem-to x (h .top) n)
+
+        settled : Waits g P m q ⊎ (m .worker q .place ≡ Done) → (w : Waits g P m q) × Walk g x (w .seed)
+        settled (inl w) = (w, up w)
+        settled (inr e) = absurd (mem-nil x (at (v .local q) e .0) n)
+
+        go : (q < P) ⊎ (P ≤ q) → (w : Waits g P m q) × Walk g x (w .seed)
+        go (inl h) = settled (stuck q h)
+        go (inr h) = absurd (mem-nil x (at (v .local q) (v .spare q h) .0) n)
+
+    -- the worker whose seed is s waits
+    seeded : (q s : ℕ) → SeedAt (m .worker q .place) s → (w : Waits g P m q) × (w .seed ≡ s)
+    seeded q s k = go (below? q P)
+      where
+        settled : Waits g P m q ⊎ (m .worker q .place ≡ Done) → (w : Waits g P m q) × (w .seed ≡ s)
+        settled (inl w) = (w, subst (λ a. SeedAt a s) (w .waits) k)
+        settled (inr e) = absurd (subst (λ a. SeedAt a s) e k)
+
+        go : (q < P) ⊎ (P ≤ q) → (w : Waits g P m q) × (w .seed ≡ s)
+        go (inl h) = settled (stuck q h)
+        go (inr h) = absurd (subst (λ a. SeedAt a s) (v .spare q h) k)
+
+    -- a waiting worker's seed leads to a waiting worker's seed
+    leads : (p : ℕ) (w : Waits g P m p) → (q : ℕ) × (w′ : Waits g P m q) × Far g (w .seed) (w′ .seed)
+    unfolding othersRed
+    leads p w = finish (along a (hunt .way a in-R))
+      where
+        hunt : Hunt g (m .blue) (Dead m) p (m .worker p) (w .seed)
+        hunt = waiting-hunt sound v (w .waits)
+
+        wanted : (i : ℕ) × (i < g .size) × ((not (m .worker p .R i && g .accepting i && not (eqb i (w .seed))) || m .red i) ≡ false)
+        wanted = every-fails (g .size) _ (w .blocked)
+
+        a : ℕ
+        a = wanted .0
+
+        waited : Bool
+        waited = m .worker p .R a && g .accepting a && not (eqb a (w .seed))
+
+        not-red : m .red a ≡ false
+        not-red = or-right (not waited) (m .red a) (wanted .2)
+
+        all-three : waited ≡ true
+        all-three = not-false waited (or-left (not waited) (m .red a) (wanted .2))
+
+        two : (m .worker p .R a && g .accepting a) ≡ true
+        two = and-cases (m .worker p .R a && g .accepting a) (not (eqb a (w .seed))) all-three .0
+
+        in-R : m .worker p .R a ≡ true
+        in-R = and-cases (m .worker p .R a) (g .accepting a) two .0
+
+        accepts : g .accepting a ≡ true
+        accepts = and-cases (m .worker p .R a) (g .accepting a) two .1
+
+        other : a ≢ w .seed
+        other q = clash (eq-eqb a (w .seed) q) (not-true (eqb a (w .seed)) (and-cases (m .worker p .R a && g .accepting a) (not (eqb a (w .seed))) all-three .1))
+
+        Next : Type 0
+        Next = (q : ℕ) × (w′ : Waits g P m q) × Far g (w .seed) (w′ .seed)
+
+        -- each state on the way is blue, or the first that is not is cyan for a waiting worker
+        along : (t : ℕ) → Within g (m .worker p .R) (w .seed) t → (m .blue t ≡ true) ⊎ Next
+        along _ here = inl (hunt .is-blue)
+        along t (onward {t = y} k e r) = go (along y k)
+          where
+            cyan : (m .blue t ≡ true) ⊎ ((q : ℕ) × (m .worker q .cyan t ≡ true)) → (m .blue t ≡ true) ⊎ Next
+            cyan (inl b) = inl b
+            cyan (inr c) =
+                let h = holder (c .0) t (v .local (c .0) .stacks .on t (c .1)) in
+                inr (c .0, h .0, walk-far (within-walk k) (far-join (edge-far e) (h .1)))
+
+            go : (m .blue y ≡ true) ⊎ Next → (m .blue t ≡ true) ⊎ Next
+            go (inl b) = cyan (v .blue-next y t b e)
+            go (inr f) = inr f
+
+        far : {t : ℕ} → Within g (m .worker p .R) (w .seed) t → t ≢ w .seed → Far g (w .seed) t
+        far here ne = absurd (ne refl)
+        far (onward k e r) ne = walk-far (within-walk k) (edge-far e)
+
+        -- a itself is blue, so it is the seed of a waiting worker
+        finish : (m .blue a ≡ true) ⊎ Next → Next
+        finish (inr f) = f
+        finish (inl b) = go (v .blue-dead a accepts b)
+          where
+            go : Dead m a ⊎ ((q : ℕ) × SeedAt (m .worker q .place) a) → Next
+            go (inl d) = absurd (clash d not-red)
+            go (inr c) = let s = seeded (c .0) a (c .1) in (c .0, s .0, rw (s .1) (far (hunt .way a in-R) other))
+
+    -- so nobody waits
+    chase : (k : ℕ) (l : List ℕ) → length l + k ≡ suc P → Once l → ((r : ℕ) → Mem r l → r < P) → (p : ℕ) (w : Waits g P m p)
+        → ((r z : ℕ) → Mem r l → m .worker r .place ≡ Waiting z → Far g z (w .seed)) → ⊥
+    chase zero l e once below p w far = omega (arith, once-bound P l once below)
+    chase (suc k) l e once below p w far = go (λ o b q w′ f. chase k (p ∷ l) (omega arith) o b q w′ f) (leads p w) (either (elem p l))
+      where
+        seed-is : (z : ℕ) → m .worker p .place ≡ Waiting z → z ≡ w .seed
+        seed-is z q = let e : Waiting z ≡ Waiting (w .seed) = sym q ∙ w .waits in cc
+
+        go : (Once (p ∷ l) → ((r : ℕ) → Mem r (p ∷ l) → r < P) → (q : ℕ) (w′ : Waits g P m q) → ((r z : ℕ) → Mem r (p ∷ l) → m .worker r .place ≡ Waiting z → Far g z (w′ .seed)) → ⊥)
+            → (q : ℕ) × (w′ : Waits g P m q) × Far g (w .seed) (w′ .seed) → (elem p l ≡ true) ⊎ (elem p l ≡ false) → ⊥
+        go rest n (inl on) = seed-on-no-loop sound v (w .waits) (far p (w .seed) (elem-mem p l on) (w .waits))
+        go rest n (inr off) = rest (elem-not p l off, once) inside (n .0) (n .1) reach
+          where
+            inside : (r : ℕ) → Mem r (p ∷ l) → r < P
+            inside r (inl q) = rw q (w .below)
+            inside r (inr h) = below r h
+
+            reach : (r z : ℕ) → Mem r (p ∷ l) → m .worker r .place ≡ Waiting z → Far g z (n .1 .seed)
+            reach r z (inl q) at = rw (seed-is z (subst (λ i. m .worker i .place ≡ Waiting z) q at)) (n .2)
+            reach r z (inr h) at = far-join (far r z h at) (far-walk (n .2))
+
+    nobody-waits : (p : ℕ) → Waits g P m p → ⊥
+    nobody-waits p w = chase (suc P) [] (omega arith) tt (λ r h. absurd h) p w (λ r z h at. absurd h)
+
+  pub progress : ((p : ℕ) × (p < P) × (changes (turn g p m .move) ≡ true)) ⊎ ((q : ℕ) → q < P → m .worker q .place ≡ Done)
+  progress = go (find P (λ p. changes (turn g p m .move)))
+    where
+      go : ((p : ℕ) × (p < P) × (changes (turn g p m .move) ≡ true)) ⊎ ((p : ℕ) → p < P → changes (turn g p m .move) ≡ false)
+          → ((p : ℕ) × (p < P) × (changes (turn g p m .move) ≡ true)) ⊎ ((q : ℕ) → q < P → m .worker q .place ≡ Done)
+      go (inl p) = inl p
+      go (inr still) = inr (λ q h. done q (stuck q h))
+        where
+          stuck : (q : ℕ) → q < P → Waits g P m q ⊎ (m .worker q .place ≡ Done)
+          stuck q h = idle h (turn g q m) (obeys g q m (v .local q)) (still q h)
+
+          done : (q : ℕ) → Waits g P m q ⊎ (m .worker q .place ≡ Done) → m .worker q .place ≡ Done
+          done q (inl w) = absurd (nobody-waits stuck q w)
+          done q (inr e) = e

@@ -1,0 +1,6 @@
+-- In the order of reading: the moves as a relation, what concerns the stacks, the invariant, and the moves that are left.
+pub mod Rules
+pub mod Stacks
+pub mod Invariant
+pub mod Turns
+pub mod Cost
