@@ -105,7 +105,8 @@ slips =
     row 2 (graphOf (0 ∷ 1 ∷ 2 ∷ 3 ∷ []) (1 ∷ 2 ∷ 1 ∷ []) (1 ∷ 1 ∷ 0 ∷ [])) (replicate 6 0 ++ (replicate 10 1 ++ replicate 7 0))
     (tells (cycle (0 ∷ []) (1 ∷ 2 ∷ [])) 18 (counts 4 5 1 17) (Inner 1 ∷ Waiting 0 ∷ [])) false
     -- the same with T A C after T A B: painting red while searching says none
-    ∷ row 2 (graphOf (0 ∷ 2 ∷ 3 ∷ 4 ∷ []) (1 ∷ 2 ∷ 2 ∷ 1 ∷ []) (1 ∷ 1 ∷ 0 ∷ [])) (replicate 6 0 ++ (replicate 5 1 ++ (replicate 9 0 ++ replicate 5 1)))
+    ∷ row 2 (graphOf (0 ∷ 2 ∷ 3 ∷ 4 ∷ []) (1 ∷ 2 ∷ 2 ∷ 1 ∷ []) (1 ∷ 1 ∷ 0 ∷ []))
+    (replicate 6 0 ++ (replicate 5 1 ++ (replicate 9 0 ++ replicate 5 1)))
     (tells (cycle (0 ∷ []) (1 ∷ 2 ∷ [])) 13 (counts 4 4 0 13) (Inner 1 ∷ Inner 0 ∷ [])) false
     -- A `a`, B `-`, T A B: testing cyan of any worker in move 4 says cycle after 7, and there is no loop
     ∷ row 2 (graphOf (0 ∷ 1 ∷ 1 ∷ []) (1 ∷ []) (1 ∷ 0 ∷ [])) (0 ∷ 1 ∷ 1 ∷ 0 ∷ 1 ∷ 1 ∷ 1 ∷ [])

@@ -1,10 +1,10 @@
 -- What a run promises, for all turn lists, all numbers of workers from 1 on, all graphs and all orders of looking (`Sound`). The words in quotes
 -- are those of the demands; a machine that turns can lead to is that of `run g P l`. At the end, the same of the words of a graph.
 use Prim.Native.Nat.{ℕ, _+_, _-_, _*_, _<_, _≤_}
-use mathlib.Core.Path.{_≡_, refl, sym, ap, _∙_}
+use mathlib.Core.Path.{_≡_, sym, ap, _∙_}
 use mathlib.Core.Bool.{true}
 use mathlib.Core.List.{List, [], _∷_, _++_}
-use mathlib.Core.Logic.{_⊎_, inl, inr, _≢_}
+use mathlib.Core.Logic.{_≢_, ⊎-elim}
 use native.Mathlib.Omega.{arith}
 use native.Mathlib.Nat.{le-of-eq}
 use lib.ListN.{length}
@@ -13,15 +13,12 @@ use Rattle.graphs.specs.Graph.{Graph, Sound, graph}
 use Rattle.graphs.specs.Lasso.{Lasso, MarkedLoop}
 use Rattle.graphs.specs.Words.{graphOf, isGraph}
 use Rattle.graphs.proofs.Tests.{below?}
-use Rattle.graphs.proofs.Lasso.{lasso-marked-loop}
 use Rattle.graphs.proofs.Words.{words-are, words-sound, edges-are}
 use Rattle.moves.specs.Moves.{turn}
-use Rattle.moves.specs.Tally.{changes}
-use Rattle.moves.specs.Run.{Answer, cycle, none, undecided, begin, next, step, runFrom, run, rounds}
-use Rattle.theory.specs.Stacks.{Shallow}
-use Rattle.theory.specs.Turns.{Named, Cut, mostMoves, runToEnd, wordOf, Decided, Stands}
-use Rattle.theory.proofs.Run.{run-join, step-goes, run-stays, all-used, run-stands, begin-stands, run-shallow}
-use Rattle.theory.proofs.Ends.{can-move, change-differs, step-counts, run-paid, cut-ends, rounds-named, rounds-cut, rounds-join}
+use Rattle.moves.specs.Run.{cycle, none, undecided, begin, next, step, runFrom, run, rounds, runRounds}
+use Rattle.theory.specs.Turns.{Named, Cut, CanMove, Counts, mostMoves, runToEnd, wordOf, word-cycle, Decided, Stands, AllShallow}
+use Rattle.theory.proofs.Run.{decided, run-join, step-goes, run-stays, all-used, words-agree, word-finds, run-stands, begin-stands, run-shallow}
+use Rattle.theory.proofs.Ends.{can-move, change-differs, step-counts, run-paid, cut-ends, rounds-named, rounds-cut, rounds-longer}
 use Rattle.theory.proofs.Total.{start-total}
 
 module _ (g : Graph) (P : ℕ) where
@@ -43,7 +40,7 @@ module _ (g : Graph) (P : ℕ) where
   undecided-ran-out l e = omega (arith, all-used g P begin l e)
 
   module _ (sound : Sound g) (some : 0 < P) where
-    stands : (l : List ℕ) → Named P l → Stands g P (run g P l .machine) (run g P l .answer)
+    stands : (l : List ℕ) → Named P l → Stands g P (run g P l)
     stands l n = run-stands g P sound some begin l n (begin-stands g P sound some)
 
     -- ""cycle" comes with a real path from the initial state and a real loop holding a marked state", and no state stands twice in them
@@ -59,16 +56,15 @@ module _ (g : Graph) (P : ℕ) where
 
     -- 3. "at every point that turns can lead to without an answer, some worker can make a move that changes its state"
     pub some-worker-moves : (l : List ℕ) → Named P l → run g P l .answer ≡ undecided
-        → (p : ℕ) × (p < P) × (changes (turn g p (run g P l .machine) .move) ≡ true) × (turn g p (run g P l .machine) .machine ≢ run g P l .machine)
+        → (p : ℕ) × (p < P) × CanMove g (run g P l .machine) p × (turn g p (run g P l .machine) .machine ≢ run g P l .machine)
     some-worker-moves l n e =
         let k = can-move g sound P some (run g P l) (stands l n) e in
         (k .0, k .1, k .2, change-differs g sound P some (run g P l) (stands l n) e (k .0) (k .1) (k .2))
 
     -- Such moves are what the tally's last count counts: it rises by one at a turn that changes the machine, and at no other.
     pub tally-counts-moves : (l : List ℕ) → Named P l → run g P l .answer ≡ undecided → (p : ℕ) → p < P
-        → ((step g P (run g P l) p .tally .moves ≡ run g P l .tally .moves + 1) × (step g P (run g P l) p .machine ≢ run g P l .machine))
-        ⊎ ((step g P (run g P l) p .tally .moves ≡ run g P l .tally .moves) × (step g P (run g P l) p .machine ≡ run g P l .machine))
-    tally-counts-moves l n e = step-counts g sound P some (run g P l) (stands l n) e
+        → Counts (run g P l) (run g P (l ++ (p ∷ [])))
+    tally-counts-moves l n e p h = rw (each-turn l p) (step-counts g sound P some (run g P l) (stands l n) e p h)
 
     -- "no turn list holds more than P × (1 + 4N + 3E) such moves"
     pub moves-bounded : (l : List ℕ) → Named P l → run g P l .tally .moves ≤ mostMoves g P
@@ -76,53 +72,31 @@ module _ (g : Graph) (P : ℕ) where
 
     -- "So a list that can be cut into that many stretches, each naming every worker, ends in "cycle" or "none""
     pub cut-decides : (l : List ℕ) → Named P l → Cut P (mostMoves g P) l → Decided (run g P l .answer)
-    cut-decides l n c = go (run g P l .answer) refl
-      where
-        go : (a : Answer) → run g P l .answer ≡ a → Decided a
-        go (cycle stem loop) e = tt
-        go none e = tt
-        go undecided e = cut-ends g sound P some (mostMoves g P) begin l c n (begin-stands g P sound some) (le-of-eq (start-total g P)) e
+    cut-decides l n c =
+        decided (run g P l .answer)
+        (cut-ends g sound P some (mostMoves g P) begin l c n (begin-stands g P sound some) (le-of-eq (start-total g P)))
 
-    -- "and in the same word as every other such list": whatever decides two lists
-    pub same-word : (l k : List ℕ) → Named P l → Named P k → Decided (run g P l .answer) → Decided (run g P k .answer)
-        → wordOf (run g P l .answer) ≡ wordOf (run g P k .answer)
-    same-word l k n o = go (run g P l .answer) (run g P k .answer) refl refl
-      where
-        differ : (x y : List ℕ) (stem loop : List ℕ) → Named P x → Named P y → run g P x .answer ≡ cycle stem loop → run g P y .answer ≡ none → ⊥
-        differ x y stem loop nx ny e f = none-is-none y ny f (lasso-marked-loop g stem loop (cycle-is-lasso x nx stem loop e))
-
-        go : (a b : Answer) → run g P l .answer ≡ a → run g P k .answer ≡ b → Decided a → Decided b → wordOf a ≡ wordOf b
-        go (cycle s t) (cycle s′ t′) e f d c = refl
-        go (cycle s t) none e f d c = absurd (differ l k s t n o e f)
-        go (cycle s t) undecided e f d c = absurd c
-        go none (cycle s t) e f d c = absurd (differ k l s t o n f e)
-        go none none e f d c = refl
-        go none undecided e f d c = absurd c
-        go undecided b e f d c = absurd d
-
+    -- "and in the same word as every other such list", which is "cycle" if such a loop can be reached
     pub cut-same-word : (l k : List ℕ) → Named P l → Named P k → Cut P (mostMoves g P) l → Cut P (mostMoves g P) k
         → wordOf (run g P l .answer) ≡ wordOf (run g P k .answer)
-    cut-same-word l k n o c d = same-word l k n o (cut-decides l n c) (cut-decides k o d)
+    cut-same-word l k n o c d =
+        words-agree g P (run g P l .machine) (run g P k .machine) (run g P l .answer) (run g P k .answer) (stands l n) (stands k o)
+        (cut-decides l n c) (cut-decides k o d)
 
-    -- The run to the end is decided within that many rounds of 0, 1, .., P − 1; and it is the result of every number of rounds that is decided.
+    pub cut-finds : (l : List ℕ) → Named P l → Cut P (mostMoves g P) l → MarkedLoop g → wordOf (run g P l .answer) ≡ word-cycle
+    cut-finds l n c = word-finds g P (run g P l .machine) (run g P l .answer) (stands l n) (cut-decides l n c)
+
+    -- The run to the end is decided within that many rounds of 0, 1, .., P − 1; and every number of rounds that is decided gives its result.
     pub end-decides : Decided (runToEnd g P .answer)
     end-decides = cut-decides (rounds P (mostMoves g P)) (rounds-named P (mostMoves g P)) (rounds-cut P (mostMoves g P))
 
-    pub end-is-any : (k : ℕ) → Decided (run g P (rounds P k) .answer) → runToEnd g P ≡ run g P (rounds P k)
-    end-is-any k d = go (below? k (mostMoves g P))
-      where
-        longer : (i j : ℕ) → i ≤ j → Decided (run g P (rounds P i) .answer) → run g P (rounds P j) ≡ run g P (rounds P i)
-        longer i j h c =
-            let e : i + (j - i) ≡ j = omega arith in
-            ap (λ n. run g P (rounds P n)) (sym e) ∙ ap (run g P) (rounds-join P i (j - i)) ∙ answer-stays (rounds P i) (rounds P (j - i)) c
-
-        go : (k < mostMoves g P) ⊎ (mostMoves g P ≤ k) → runToEnd g P ≡ run g P (rounds P k)
-        go (inl h) = longer k (mostMoves g P) (omega arith) d
-        go (inr h) = sym (longer (mostMoves g P) k h end-decides)
+    pub end-is-any : (k : ℕ) → Decided (runRounds g P k .answer) → runRounds g P k ≡ runToEnd g P
+    end-is-any k d =
+        ⊎-elim (λ h. sym (rounds-longer g P k (mostMoves g P) (omega arith) d)) (λ h. rounds-longer g P (mostMoves g P) k h end-decides)
+        (below? k (mostMoves g P))
 
     -- Both stacks are at most N deep and hold only states, wherever turns lead, with an answer or without.
-    pub stacks-shallow : (l : List ℕ) → Named P l → (q : ℕ)
-        → Shallow (g .size) (run g P l .machine .worker q .outer) (run g P l .machine .worker q .inner)
+    pub stacks-shallow : (l : List ℕ) → Named P l → AllShallow g (run g P l .machine)
     stacks-shallow = run-shallow g P sound some
 
 -- The same of words that are a graph: N is the number of flags, E the number of targets.

@@ -1,6 +1,6 @@
--- Every run ends. No list holds more changing moves than `mostMoves`, and a stretch that names every worker and brings no answer has at least one; so
--- a list of as many such stretches as `mostMoves` says brings an answer, and the run to the end is such a list.
-use Prim.Native.Nat.{ℕ, zero, suc, _+_, _<_, _≤_}
+-- Every run ends. No list holds more changing moves than `mostMoves`, and a stretch that names every worker and brings no answer has at least
+-- one; so a list of as many such stretches as `mostMoves` says brings an answer, and the run to the end is such a list.
+use Prim.Native.Nat.{ℕ, zero, suc, _+_, _-_, _<_, _≤_}
 use mathlib.Core.Path.{_≡_, refl, sym, ap, subst, _∙_}
 use mathlib.Core.Bool.{true, false}
 use mathlib.Core.List.{List, _∷_, _++_, append-assoc}
@@ -15,71 +15,70 @@ use Rattle.graphs.proofs.Member.{mem-left, mem-right, mem-cases}
 use Rattle.moves.specs.declared.Place.the-variants.{Done}
 use Rattle.moves.specs.Place.{isDone}
 use Rattle.moves.specs.Moves.{turn}
-use Rattle.moves.specs.Tally.{changes, raised}
-use Rattle.moves.specs.Run.{undecided, allDone, Result, step, runFrom, upFrom, rounds}
+use Rattle.moves.specs.Tally.{changes}
+use Rattle.moves.specs.Run.{undecided, allDone, Result, begin, next, step, runFrom, run, upFrom, rounds, runRounds}
 use Rattle.theory.specs.Rules.{Rule}
 use Rattle.theory.specs.Invariant.{Invariant}
-use Rattle.theory.specs.Turns.{Named, NamesAll, Cut, Stands}
+use Rattle.theory.specs.Turns.{Named, NamesAll, CanMove, Counts, Cut, Decided, Stands}
 use Rattle.theory.specs.Cost.{total}
 use Rattle.theory.proofs.Rules.{obeys}
 use Rattle.theory.proofs.Progress.{progress}
-use Rattle.theory.proofs.Run.{run-join, step-goes, open-before, step-stands, run-ind, run-stands}
+use Rattle.theory.proofs.Run.{run-join, step-goes, run-stays, open-before, step-stands, run-ind, run-stands}
 use Rattle.theory.proofs.Total.{Kind, counted, passed-over, kind, falls, still, paid, no-more}
 
 module _ (g : Graph) (sound : Sound g) (P : ℕ) (some : 0 < P) where
+  -- the moves that are left
+  abbrev due : Result → ℕ
+  due r = total g P (r .machine)
+
   -- what the rules make of a result without an answer
-  module _ (r : Result) (st : Stands g P (r .machine) (r .answer)) (e : r .answer ≡ undecided) where
+  module _ (r : Result) (st : Stands g P r) (e : r .answer ≡ undecided) where
     invariant : Invariant g P (r .machine)
     invariant = (rw e at st) .0
 
     rule : (p : ℕ) → Rule g p (r .machine) (turn g p (r .machine))
     rule p = obeys g p (r .machine) (invariant .local p)
 
-    pub can-move : (p : ℕ) × (p < P) × (changes (turn g p (r .machine) .move) ≡ true)
+    pub can-move : (p : ℕ) × (p < P) × CanMove g (r .machine) p
     unfolding allDone
-    can-move = go (progress sound invariant)
+    can-move = ⊎-elim (λ k. k) (λ all. absurd (clash (done all) ((rw e at st) .1))) (progress sound invariant)
       where
-        go : ((p : ℕ) × (p < P) × (changes (turn g p (r .machine) .move) ≡ true)) ⊎ ((q : ℕ) → q < P → r .machine .worker q .place ≡ Done)
-            → (p : ℕ) × (p < P) × (changes (turn g p (r .machine) .move) ≡ true)
-        go (inl k) = k
-        go (inr all) = absurd (clash (every-of P (λ q. isDone (r .machine .worker q .place)) (λ q h. ap isDone (all q h))) ((rw e at st) .1))
+        done : ((q : ℕ) → q < P → r .machine .worker q .place ≡ Done) → allDone P (r .machine) ≡ true
+        done all = every-of P (λ q. isDone (r .machine .worker q .place)) (λ q h. ap isDone (all q h))
 
-    step-falls : (p : ℕ) → p < P → changes (turn g p (r .machine) .move) ≡ true → total g P (step g P r p .machine) < total g P (r .machine)
+    step-falls : (p : ℕ) → p < P → CanMove g (r .machine) p → due (step g P r p) < due r
     step-falls p h c = rw (step-goes g P r p e) (falls sound invariant h (turn g p (r .machine)) (rule p) c)
-
-    pub change-differs : (p : ℕ) → p < P → changes (turn g p (r .machine) .move) ≡ true → turn g p (r .machine) .machine ≢ r .machine
-    change-differs p h c same = omega (arith, falls sound invariant h (turn g p (r .machine)) (rule p) c, ap (total g P) same)
-
-    -- the tally's count of moves rises by one at a turn that changes the machine, and at no other
-    pub step-counts : (p : ℕ) → p < P → ((step g P r p .tally .moves ≡ r .tally .moves + 1) × (step g P r p .machine ≢ r .machine))
-        ⊎ ((step g P r p .tally .moves ≡ r .tally .moves) × (step g P r p .machine ≡ r .machine))
-    step-counts p h = rw (step-goes g P r p e) (go (kind (turn g p (r .machine)) (rule p)))
-      where
-        go : Kind (r .machine) (turn g p (r .machine))
-            → ((raised (r .tally) (turn g p (r .machine) .move) .moves ≡ r .tally .moves + 1) × (turn g p (r .machine) .machine ≢ r .machine))
-            ⊎ ((raised (r .tally) (turn g p (r .machine) .move) .moves ≡ r .tally .moves) × (turn g p (r .machine) .machine ≡ r .machine))
-        go (counted c up) = inl (up (r .tally), change-differs p h c)
-        go (passed-over c same stays) = inr (same (r .tally), stays)
 
     step-still : (p : ℕ) → changes (turn g p (r .machine) .move) ≡ false → step g P r p .machine ≡ r .machine
     step-still p c = rw (step-goes g P r p e) (still (turn g p (r .machine)) (rule p) c)
 
+    pub change-differs : (p : ℕ) → p < P → CanMove g (r .machine) p → turn g p (r .machine) .machine ≢ r .machine
+    change-differs p h c same = omega (arith, falls sound invariant h (turn g p (r .machine)) (rule p) c, ap (total g P) same)
+
+    -- the tally's count of moves rises by one at a turn that changes the machine, and at no other
+    pub step-counts : (p : ℕ) → p < P → Counts r (step g P r p)
+    step-counts p h = rw (step-goes g P r p e) (go (kind (turn g p (r .machine)) (rule p)))
+      where
+        go : Kind (r .machine) (turn g p (r .machine)) → Counts r (next P p r (turn g p (r .machine)))
+        go (counted c up) = inl (up (r .tally), change-differs p h c)
+        go (passed-over c same stays) = inr (same (r .tally), stays)
+
   -- the moves counted and those that are left are never more than before
-  pub run-paid : (r : Result) (l : List ℕ) → Named P l → Stands g P (r .machine) (r .answer)
-      → runFrom g P r l .tally .moves + total g P (runFrom g P r l .machine) ≤ r .tally .moves + total g P (r .machine)
+  pub run-paid : (r : Result) (l : List ℕ) → Named P l → Stands g P r
+      → runFrom g P r l .tally .moves + due (runFrom g P r l) ≤ r .tally .moves + due r
   run-paid r l n st =
-      run-ind g P sound some (λ k. k .tally .moves + total g P (k .machine) ≤ r .tally .moves + total g P (r .machine))
-      (λ k p h v e le. le-trans (paid sound v h (turn g p (k .machine)) (obeys g p (k .machine) (v .local p)) (k .tally)) le) r l n st (le-refl _)
+      run-ind g P sound some (λ k. k .tally .moves + due k ≤ r .tally .moves + due r)
+      (λ k p h v le. le-trans (paid sound v h (turn g p (k .machine)) (obeys g p (k .machine) (v .local p)) (k .tally)) le) r l n st (le-refl _)
 
   -- and those that are left never rise
-  run-no-more : (r : Result) (l : List ℕ) → Named P l → Stands g P (r .machine) (r .answer) → total g P (runFrom g P r l .machine) ≤ total g P (r .machine)
+  run-no-more : (r : Result) (l : List ℕ) → Named P l → Stands g P r → due (runFrom g P r l) ≤ due r
   run-no-more r l n st =
-      run-ind g P sound some (λ k. total g P (k .machine) ≤ total g P (r .machine))
-      (λ k p h v e le. le-trans (no-more sound v h (turn g p (k .machine)) (obeys g p (k .machine) (v .local p))) le) r l n st (le-refl _)
+      run-ind g P sound some (λ k. due k ≤ due r)
+      (λ k p h v le. le-trans (no-more sound v h (turn g p (k .machine)) (obeys g p (k .machine) (v .local p))) le) r l n st (le-refl _)
 
   -- p can make a changing move, and p comes up: by then somebody has made one
-  comes-up : (r : Result) (l : List ℕ) → Named P l → Stands g P (r .machine) (r .answer) → runFrom g P r l .answer ≡ undecided
-      → (p : ℕ) → changes (turn g p (r .machine) .move) ≡ true → Mem p l → total g P (runFrom g P r l .machine) < total g P (r .machine)
+  comes-up : (r : Result) (l : List ℕ) → Named P l → Stands g P r → runFrom g P r l .answer ≡ undecided
+      → (p : ℕ) → CanMove g (r .machine) p → Mem p l → due (runFrom g P r l) < due r
   unfolding runFrom
   comes-up r (q ∷ l) n st e p c on = go (either (changes (turn g q (r .machine) .move))) on (comes-up (step g P r q) l named st′ e p)
     where
@@ -89,25 +88,24 @@ module _ (g : Graph) (sound : Sound g) (P : ℕ) (some : 0 < P) where
       isOpen : r .answer ≡ undecided
       isOpen = open-before g P r (q ∷ l) e
 
-      st′ : Stands g P (step g P r q .machine) (step g P r q .answer)
+      st′ : Stands g P (step g P r q)
       st′ = step-stands g P sound some r q (n q (inl refl)) st
 
-      go : (changes (turn g q (r .machine) .move) ≡ true) ⊎ (changes (turn g q (r .machine) .move) ≡ false) → Mem p (q ∷ l)
-          → (changes (turn g p (step g P r q .machine) .move) ≡ true → Mem p l → total g P (runFrom g P (step g P r q) l .machine) < total g P (step g P r q .machine))
-          → total g P (runFrom g P (step g P r q) l .machine) < total g P (r .machine)
+      go : CanMove g (r .machine) q ⊎ (changes (turn g q (r .machine) .move) ≡ false) → Mem p (q ∷ l)
+          → (CanMove g (step g P r q .machine) p → Mem p l → due (runFrom g P (step g P r q) l) < due (step g P r q))
+          → due (runFrom g P (step g P r q) l) < due r
       go (inl moves) k rest = omega (arith, step-falls r st isOpen q (n q (inl refl)) moves, run-no-more (step g P r q) l named st′)
       go (inr idles) (inl s) rest = absurd (clash c (rw s idles))
       go (inr idles) (inr k) rest =
           let same = step-still r st isOpen q idles in
-          let f = rest (rw same c) k in
-          omega (arith, f, ap (total g P) same)
+          omega (arith, rest (rw same c) k, ap (total g P) same)
 
   -- a stretch that names every worker and brings no answer
-  stretch-falls : (r : Result) (l : List ℕ) → Named P l → NamesAll P l → Stands g P (r .machine) (r .answer) → runFrom g P r l .answer ≡ undecided
-      → total g P (runFrom g P r l .machine) < total g P (r .machine)
+  stretch-falls : (r : Result) (l : List ℕ) → Named P l → NamesAll P l → Stands g P r → runFrom g P r l .answer ≡ undecided
+      → due (runFrom g P r l) < due r
   stretch-falls r l n all st e = let k = can-move r st (open-before g P r l e) in comes-up r l n st e (k .0) (k .2) (all (k .0) (k .1))
 
-  pub cut-ends : (k : ℕ) (r : Result) (l : List ℕ) → Cut P k l → Named P l → Stands g P (r .machine) (r .answer) → total g P (r .machine) ≤ k
+  pub cut-ends : (k : ℕ) (r : Result) (l : List ℕ) → Cut P k l → Named P l → Stands g P r → due r ≤ k
       → runFrom g P r l .answer ≡ undecided → ⊥
   cut-ends zero r l cut n st le e =
       let isOpen = open-before g P r l e in
@@ -122,7 +120,7 @@ module _ (g : Graph) (sound : Sound g) (P : ℕ) (some : 0 < P) where
       e′ : runFrom g P (runFrom g P r s) t .answer ≡ undecided
       e′ = ap (λ k. k .answer) (sym (run-join g P r s t)) ∙ subst (λ k. runFrom g P r k .answer ≡ undecided) q e
 
-      fell : total g P (runFrom g P r s .machine) ≤ k
+      fell : due (runFrom g P r s) ≤ k
       fell = omega (arith, stretch-falls r s named all st (open-before g P (runFrom g P r s) t e′))
 
 -- the numbers from i on, k of them
@@ -152,7 +150,16 @@ rounds-cut P zero = refl
 rounds-cut P (suc k) = (upFrom 0 P, rounds P k, refl, λ p h. upFrom-all 0 P p (omega arith) (omega arith), rounds-cut P k)
 
 -- rounds after rounds
-pub rounds-join : (P j k : ℕ) → rounds P (j + k) ≡ rounds P j ++ rounds P k
+rounds-join : (P j k : ℕ) → rounds P (j + k) ≡ rounds P j ++ rounds P k
 unfolding rounds
 rounds-join P zero k = ap (rounds P) (zero-add k)
-rounds-join P (suc j) k = rw (suc-add j k) (ap (λ l. upFrom 0 P ++ l) (rounds-join P j k) ∙ sym (append-assoc (upFrom 0 P) (rounds P j) (rounds P k)))
+rounds-join P (suc j) k =
+    let one = upFrom 0 P in
+    rw (suc-add j k) (ap (λ l. one ++ l) (rounds-join P j k) ∙ sym (append-assoc one (rounds P j) (rounds P k)))
+
+-- more rounds after an answer change nothing
+pub rounds-longer : (g : Graph) (P i j : ℕ) → i ≤ j → Decided (runRounds g P i .answer) → runRounds g P j ≡ runRounds g P i
+rounds-longer g P i j h d =
+    let e : i + (j - i) ≡ j = omega arith in
+    ap (runRounds g P) (sym e) ∙ ap (run g P) (rounds-join P i (j - i)) ∙ run-join g P begin (rounds P i) (rounds P (j - i))
+    ∙ run-stays g P (runRounds g P i) (rounds P (j - i)) d

@@ -3,105 +3,36 @@ use Prim.Native.Nat.{ℕ, suc}
 use mathlib.Core.Path.{_≡_, refl, subst, sym, ap, _∙_}
 use mathlib.Core.Bool.{Bool, true, false, cond}
 use mathlib.Core.List.{List, [], _∷_}
-use mathlib.Core.Logic.{_⊎_, inl, inr, _≢_}
-use lib.ListN.{take, drop}
+use mathlib.Core.Logic.{_⊎_, inl, inr, _≢_, ⊎-map}
+use lib.ListN.{drop}
 use borrow.Author.Tests.{eqb-true, eq-eqb}
 use Rattle.graphs.specs.Lists.{upd, Mem, Once}
 use Rattle.graphs.specs.Graph.{Graph, Edge, Sound}
 use Rattle.graphs.proofs.Tests.{clash, same?}
 use Rattle.graphs.proofs.Change.{upd-same, upd-other, upd-cases, upd-up}
-use Rattle.graphs.proofs.Member.{take-one, drop-mem, all-taken}
-use Rattle.moves.specs.declared.Place.{Place}
 use Rattle.moves.specs.declared.Place.the-variants.{Fresh, Outer, Inner, Waiting, Done}
 use Rattle.moves.specs.Machine.{Worker}
 use Rattle.moves.specs.Moves.{isEmpty, only, starts, takes, enters, pops, seeds, joins, backs}
 use Rattle.theory.specs.Stacks.{Stacked, Trail}
 use Rattle.theory.specs.Invariant.{Taken, Looked, Fine, Within, here, onward, Calm, Climb, Hunt, Deep, Phase, Local}
 use Rattle.theory.proofs.Phase.{at, deep-trail}
-use Rattle.theory.proofs.Stacks.{mem-to, mem-top, mem-under, mem-nil, stacks-start, stacks-take, stacks-push, stacks-pop, stacks-inner}
-
--- with more blue and more dead, what holds of a worker that does not move still holds
-module _ (g : Graph) {b b′ : ℕ → Bool} {d d′ : ℕ → Type 0} (p : ℕ) (w : Worker)
-    (blues : (x : ℕ) → b x ≡ true → b′ x ≡ true) (deads : (x : ℕ) → d x → d′ x) where
-  looked-more : (l : List ℕ) → Looked g b p w l → Looked g b′ p w l
-  looked-more l h s m x t = go (h s m x t)
-    where
-      go : (b x ≡ true) ⊎ (w .cyan x ≡ true) → (b′ x ≡ true) ⊎ (w .cyan x ≡ true)
-      go (inl e) = inl (blues x e)
-      go (inr e) = inr e
-
-  fine-more : (x : ℕ) → Fine d w x → Fine d′ w x
-  fine-more x f = (f .0, go (f .1))
-    where
-      go : (w .R x ≡ true) ⊎ d x → (w .R x ≡ true) ⊎ d′ x
-      go (inl e) = inl e
-      go (inr e) = inr (deads x e)
-
-  hunt-more : (z : ℕ) → Hunt g b d p w z → Hunt g b′ d′ p w z
-  hunt-more z h =
-      record {
-        under = h .under;
-        top = h .top;
-        accepts = h .accepts;
-        is-blue = blues z (h .is-blue);
-        looked = looked-more (h .under) (h .looked);
-        held = h .held;
-        own = h .own;
-        took = λ t r x k. fine-more x (h .took t r x k);
-        full = λ t r n x e. fine-more x (h .full t r n x e);
-        way = h .way;
-        off = h .off;
-      }
-
-  phase-more : (q : Place) → Phase g b d p w q → Phase g b′ d′ p w q
-  phase-more Fresh h = h
-  phase-more Outer h = record { calm = h .calm; head = h .head; under = h .under; top = h .top; looked = looked-more (w .outer) (h .looked) }
-  phase-more (Inner z) h = (hunt-more z (h .0), h .1)
-  phase-more (Waiting z) h = (hunt-more z (h .0), h .1)
-  phase-more Done h = (h .0, h .1, blues 0 (h .2))
-
-  pub local-more : Local g b d p w → Local g b′ d′ p w
-  local-more l = record { stacks = l .stacks; phase = phase-more (w .place) (l .phase) }
-
--- what was taken before and after a move
-module _ (g : Graph) (p : ℕ) (w : Worker) where
-  pub took-one : (s x : ℕ) (k : List ℕ) → drop (w .taken s) (g .order p s) ≡ x ∷ k
-      → (t y : ℕ) → Taken g p (takes w s) t y → Taken g p w t y ⊎ ((t ≡ s) × (y ≡ x))
-  took-one s x k e t y h = go (same? t s)
-    where
-      at-s : t ≡ s → Taken g p w s y ⊎ (y ≡ x) → Taken g p w t y ⊎ ((t ≡ s) × (y ≡ x))
-      at-s q (inl m) = inl (subst (λ r. Taken g p w r y) (sym q) m)
-      at-s q (inr f) = inr (q, f)
-
-      go : (t ≡ s) ⊎ (t ≢ s) → Taken g p w t y ⊎ ((t ≡ s) × (y ≡ x))
-      go (inl q) = at-s q (take-one (w .taken s) (g .order p s) x k e y (rw (upd-same (w .taken) s (suc (w .taken s))) at (subst (λ r. Taken g p (takes w s) r y) q h)))
-      go (inr ne) = inl (rw (upd-other (w .taken) s (suc (w .taken s)) t ne) at h)
-
-  -- the count of s set back to 0
-  pub set-back : (s t y : ℕ) → Mem y (take (upd (w .taken) s 0 t) (g .order p t)) → Taken g p w t y
-  set-back s t y h = go (same? t s)
-    where
-      go : (t ≡ s) ⊎ (t ≢ s) → Taken g p w t y
-      go (inl q) = absurd (rw (q, upd-same (w .taken) s 0) at h)
-      go (inr ne) = rw (upd-other (w .taken) s 0 t ne) at h
-
-  pub none-taken : (t y : ℕ) → w .taken t ≡ 0 → Taken g p w t y → ⊥
-  none-taken t y e h = rw e at h
-
-  -- no successor is left, so all are taken
-  pub all-of : Sound g → (s : ℕ) → drop (w .taken s) (g .order p s) ≡ [] → (x : ℕ) → Edge g s x → Taken g p w s x
-  all-of sound s e x h = rw (all-taken (w .taken s) (g .order p s) e) (sound .shown p s x h)
-
-  pub next-edge : Sound g → (s x : ℕ) (k : List ℕ) → drop (w .taken s) (g .order p s) ≡ x ∷ k → Edge g s x
-  next-edge sound s x k e = sound .seen p s x (drop-mem (w .taken s) (g .order p s) x k e)
+use Rattle.theory.proofs.Taken.{took-one, set-back, none-taken, all-of, next-edge}
+use Rattle.theory.proofs.Stacks.{mem-top, mem-under, mem-rest, mem-nil, stacks-start, stacks-take, stacks-push, stacks-pop, stacks-inner}
 
 module _ {g : Graph} (sound : Sound g) {b : ℕ → Bool} {d : ℕ → Type 0} {p : ℕ} {w : Worker} (l : Local g b d p w) where
   -- move 1
-  pub start-keeps : w .place ≡ Fresh → Local g b d p (starts w)
-  start-keeps e =
+  pub start-local : w .place ≡ Fresh → Local g b d p (starts w)
+  start-local e =
       record {
         stacks = stacks-start (l .stacks) (f .0);
-        phase = record { calm = record { bare = f .1 .bare; clear = f .1 .clear }; head = 0; under = []; top = refl; looked = λ s m x t. absurd (none-taken g p w s x (untaken s) t) };
+        phase =
+            record {
+              calm = record { bare = f .1 .bare; clear = f .1 .clear };
+              head = 0;
+              under = [];
+              top = refl;
+              looked = λ s m x t. absurd (none-taken g p w s x (untaken s) t);
+            };
       }
     where
       f : (w .outer ≡ []) × Calm w
@@ -117,8 +48,8 @@ module _ {g : Graph} (sound : Sound g) {b : ℕ → Bool} {d : ℕ → Type 0} {
 
     module _ {x : ℕ} {k : List ℕ} (er : drop (w .taken s) (g .order p s) ≡ x ∷ k) where
       -- move 2, the successor is cyan or blue
-      pub skip-keeps : (b x ≡ true) ⊎ (w .cyan x ≡ true) → Local g b d p (takes w s)
-      skip-keeps h =
+      pub skip-local : (b x ≡ true) ⊎ (w .cyan x ≡ true) → Local g b d p (takes w s)
+      skip-local h =
           record {
             stacks = stacks-take (l .stacks) s (inl (mem-top eo));
             phase =
@@ -137,8 +68,8 @@ module _ {g : Graph} (sound : Sound g) {b : ℕ → Bool} {d : ℕ → Type 0} {
           go t m y (inr q) = rw (q .1) h
 
       -- move 2, the successor goes on the stack
-      pub enter-keeps : w .cyan x ≡ false → Local g b d p (enters w s x)
-      enter-keeps off =
+      pub enter-local : w .cyan x ≡ false → Local g b d p (enters w s x)
+      enter-local off =
           record {
             stacks = stacks-push (l .stacks) s x u eo (next-edge g p w sound s x k er) off;
             phase =
@@ -155,29 +86,26 @@ module _ {g : Graph} (sound : Sound g) {b : ℕ → Bool} {d : ℕ → Type 0} {
           untaken : w .taken x ≡ 0
           untaken = l .stacks .free x (λ m. clash (l .stacks .is x m) off) (mem-nil x (climb .calm .bare))
 
-          up : (y : ℕ) → (b y ≡ true) ⊎ (w .cyan y ≡ true) → (b y ≡ true) ⊎ (upd (w .cyan) x true y ≡ true)
-          up y (inl e) = inl e
-          up y (inr e) = inr (upd-up (w .cyan) x y e)
-
-          go : (t : ℕ) → Mem t (x ∷ w .outer) → (y : ℕ) → Taken g p w t y ⊎ ((t ≡ s) × (y ≡ x)) → (b y ≡ true) ⊎ (upd (w .cyan) x true y ≡ true)
+          go : (t : ℕ) → Mem t (x ∷ w .outer) → (y : ℕ) → Taken g p w t y ⊎ ((t ≡ s) × (y ≡ x))
+              → (b y ≡ true) ⊎ (upd (w .cyan) x true y ≡ true)
           go t (inl q) y (inl h′) = absurd (none-taken g p w x y untaken (subst (λ r. Taken g p w r y) q h′))
-          go t (inr m) y (inl h′) = up y (climb .looked t m y h′)
+          go t (inr m) y (inl h′) = ⊎-map (λ e. e) (upd-up (w .cyan) x y) (climb .looked t m y h′)
           go t m y (inr q) = inr (rw (q .1) (upd-same (w .cyan) x true))
 
     -- move 3, accepting: s becomes the seed
-    pub seed-keeps : g .accepting s ≡ true → Local g (upd b s true) d p (seeds w s)
+    pub seed-local : g .accepting s ≡ true → Local g (upd b s true) d p (seeds w s)
     unfolding only
-    seed-keeps acc =
+    seed-local acc =
         record {
-          stacks = stacks-inner (l .stacks) (s ∷ []) (upd (w .taken) s 0) (λ x m n. upd-other (w .taken) s 0 x (λ q. n (inl q)) ∙ l .stacks .free x m (mem-nil x (climb .calm .bare)));
+          stacks = stacks-inner (l .stacks) (s ∷ []) (upd (w .taken) s 0) freed;
           phase = (
             record {
               under = u;
               top = eo;
               accepts = acc;
               is-blue = upd-same b s true;
-              looked = λ t m y k. blues y (climb .looked t (mem-under t eo m) y (set-back g p w s t y k));
-              held = λ x m. own x m;
+              looked = λ t m y k. ⊎-map (upd-up b s y) (λ e. e) (climb .looked t (mem-under t eo m) y (set-back g p w s t y k));
+              held = held;
               own = eq-eqb s s refl;
               took = λ t r x k. absurd (rw (eqb-true t s r, upd-same (w .taken) s 0) at k);
               full = λ t r n x e. absurd (n (inl (eqb-true t s r)));
@@ -188,19 +116,19 @@ module _ {g : Graph} (sound : Sound g) {b : ℕ → Bool} {d : ℕ → Type 0} {
           );
         }
       where
-        own : (x : ℕ) → Mem x (s ∷ []) → only s x ≡ true
-        own x (inl q) = eq-eqb x s q
-        own x (inr m) = absurd m
+        freed : (x : ℕ) → (Mem x (w .outer) → ⊥) → (Mem x (s ∷ []) → ⊥) → upd (w .taken) s 0 x ≡ 0
+        freed x m n = upd-other (w .taken) s 0 x (λ q. n (inl q)) ∙ l .stacks .free x m (mem-nil x (climb .calm .bare))
 
-        blues : (y : ℕ) → (b y ≡ true) ⊎ (w .cyan y ≡ true) → (upd b s true y ≡ true) ⊎ (w .cyan y ≡ true)
-        blues y (inl e) = inl (upd-up b s y e)
-        blues y (inr e) = inr e
+        held : (x : ℕ) → Mem x (s ∷ []) → only s x ≡ true
+        held x (inl q) = eq-eqb x s q
+        held x (inr m) = absurd m
 
   -- s leaves the outer stack, and is blue then: move 3, not accepting, and move 6
-  pub pop-keeps : (b′ : ℕ → Bool) (d′ : ℕ → Type 0) (s : ℕ) (u : List ℕ) (k : ℕ → Bool) → w .outer ≡ s ∷ u → w .inner ≡ [] → Looked g b p w u
+  pub pop-local : {b′ : ℕ → Bool} {d′ : ℕ → Type 0} {s : ℕ} {u : List ℕ} {k : ℕ → Bool}
+      → w .outer ≡ s ∷ u → w .inner ≡ [] → Looked g b p w u
       → ((x : ℕ) → b x ≡ true → b′ x ≡ true) → b′ s ≡ true → ((x : ℕ) → k x ≡ false)
       → Local g b′ d′ p (pops w s u (cond (isEmpty u) Done Outer) k)
-  pop-keeps b′ d′ s u k eo ei looked blues s-blue clear =
+  pop-local {b′} {d′} {s} {u} {k} eo ei looked blues s-blue clear =
       record { stacks = stacks-pop (l .stacks) s u eo; phase = go u refl }
     where
       w′ : List ℕ → Worker
@@ -209,8 +137,7 @@ module _ {g : Graph} (sound : Sound g) {b : ℕ → Bool} {d : ℕ → Type 0} {
       -- what was blue or cyan is so still, since s is blue
       still : (y : ℕ) → (y ≡ s) ⊎ (y ≢ s) → (b y ≡ true) ⊎ (w .cyan y ≡ true) → (b′ y ≡ true) ⊎ (upd (w .cyan) s false y ≡ true)
       still y (inl q) h = inl (rw q s-blue)
-      still y (inr ne) (inl e) = inl (blues y e)
-      still y (inr ne) (inr e) = inr (upd-other (w .cyan) s false y ne ∙ e)
+      still y (inr ne) h = ⊎-map (blues y) (λ e. upd-other (w .cyan) s false y ne ∙ e) h
 
       go : (v : List ℕ) → u ≡ v → Phase g b′ d′ p (w′ v) (cond (isEmpty v) Done Outer)
       go [] q = (q, record { bare = ei; clear = clear }, rw (sym first) s-blue)
@@ -256,8 +183,8 @@ module _ {g : Graph} (sound : Sound g) {b : ℕ → Bool} {d : ℕ → Type 0} {
       looked-on t m y h = hunt .looked t m y (rw (upd-other (w .taken) s (suc (w .taken s)) t (below-s t m)) at h)
 
       -- move 4, the successor is in R or dead
-      pub pass-keeps : Fine d w x → Local g b d p (takes w s)
-      pass-keeps f =
+      pub pass-local : Fine d w x → Local g b d p (takes w s)
+      pass-local f =
           record {
             stacks = stacks-take (l .stacks) s (inr (mem-top ei));
             phase =
@@ -284,10 +211,10 @@ module _ {g : Graph} (sound : Sound g) {b : ℕ → Bool} {d : ℕ → Type 0} {
           go t r y (inr q) = rw (q .1) f
 
       -- move 4, the successor joins R and the inner stack
-      pub join-keeps : w .cyan x ≡ false → w .R x ≡ false → Local g b d p (joins w s x)
-      join-keeps off out =
+      pub join-local : w .cyan x ≡ false → w .R x ≡ false → Local g b d p (joins w s x)
+      join-local off out =
           record {
-            stacks = stacks-inner (l .stacks) (x ∷ w .inner) (upd (w .taken) s (suc (w .taken s))) (λ y m n. stacks-take (l .stacks) s (inr (mem-top ei)) .free y m (λ h. n (inr h)));
+            stacks = stacks-inner (l .stacks) (x ∷ w .inner) (upd (w .taken) s (suc (w .taken s))) freed;
             phase =
                 rw ep (
                   record {
@@ -296,14 +223,14 @@ module _ {g : Graph} (sound : Sound g) {b : ℕ → Bool} {d : ℕ → Type 0} {
                     accepts = hunt .accepts;
                     is-blue = hunt .is-blue;
                     looked = looked-on;
-                    held = λ y m. held y m;
+                    held = held;
                     own = up z (hunt .own);
                     took = λ t r y h. took t (upd-cases (w .R) x t r) y (took-one g p w s x k er t y h);
                     full = λ t r n y e. full t (upd-cases (w .R) x t r) n y e;
                     way = λ t r. way t (upd-cases (w .R) x t r);
                     off = λ t r ne. away t (upd-cases (w .R) x t r) ne;
                   },
-                  record { head = x; rest = w .inner; stack = refl; trail = rw ei (edge, trail); once = (λ m. not-on m, deep .once) },
+                  record { head = x; rest = w .inner; stack = refl; trail = rw ei (edge, trail); once = (not-on, deep .once) },
                 );
           }
         where
@@ -320,11 +247,10 @@ module _ {g : Graph} (sound : Sound g) {b : ℕ → Bool} {d : ℕ → Type 0} {
           untaken = l .stacks .free x (λ m. clash (l .stacks .is x m) off) not-on
 
           fine-up : (y : ℕ) → Fine d w y → Fine d (joins w s x) y
-          fine-up y f = (f .0, go (f .1))
-            where
-              go : (w .R y ≡ true) ⊎ d y → (upd (w .R) x true y ≡ true) ⊎ d y
-              go (inl e) = inl (up y e)
-              go (inr e) = inr e
+          fine-up y f = (f .0, ⊎-map (up y) (λ e. e) (f .1))
+
+          freed : (y : ℕ) → (Mem y (w .outer) → ⊥) → (Mem y (x ∷ w .inner) → ⊥) → upd (w .taken) s (suc (w .taken s)) y ≡ 0
+          freed y m n = stacks-take (l .stacks) s (inr (mem-top ei)) .free y m (λ h. n (inr h))
 
           held : (y : ℕ) → Mem y (x ∷ w .inner) → upd (w .R) x true y ≡ true
           held y (inl q) = rw q (upd-same (w .R) x true)
@@ -352,8 +278,8 @@ module _ {g : Graph} (sound : Sound g) {b : ℕ → Bool} {d : ℕ → Type 0} {
           away t (inr r) ne = hunt .off t r ne
 
     -- move 5
-    pub back-keeps : drop (w .taken s) (g .order p s) ≡ [] → Local g b d p (backs w z s u)
-    back-keeps er =
+    pub back-local : drop (w .taken s) (g .order p s) ≡ [] → Local g b d p (backs w z s u)
+    back-local er =
         record {
           stacks = stacks-inner (l .stacks) u (upd (w .taken) s 0) (λ x m n. freed x m n (same? x s));
           phase = go u refl;
@@ -361,22 +287,14 @@ module _ {g : Graph} (sound : Sound g) {b : ℕ → Bool} {d : ℕ → Type 0} {
       where
         freed : (x : ℕ) → (Mem x (w .outer) → ⊥) → (Mem x u → ⊥) → (x ≡ s) ⊎ (x ≢ s) → upd (w .taken) s 0 x ≡ 0
         freed x m n (inl q) = rw q (upd-same (w .taken) s 0)
-        freed x m n (inr ne) = upd-other (w .taken) s 0 x ne ∙ l .stacks .free x m (λ h. off-inner (mem-to x ei h))
-          where
-            off-inner : Mem x (s ∷ u) → ⊥
-            off-inner (inl q) = ne q
-            off-inner (inr h) = n h
+        freed x m n (inr ne) = upd-other (w .taken) s 0 x ne ∙ l .stacks .free x m (λ h. n (mem-rest x ei ne h))
 
         full : (t : ℕ) → w .R t ≡ true → (Mem t u → ⊥) → (x : ℕ) → Edge g t x → (t ≡ s) ⊎ (t ≢ s) → Fine d w x
         full t r n x e (inl q) = hunt .took t r x (rw q (all-of g p w sound s er x (subst (λ y. Edge g y x) q e)))
-        full t r n x e (inr ne) = hunt .full t r (λ h. off-inner (mem-to t ei h)) x e
-          where
-            off-inner : Mem t (s ∷ u) → ⊥
-            off-inner (inl q) = ne q
-            off-inner (inr h) = n h
+        full t r n x e (inr ne) = hunt .full t r (λ h. n (mem-rest t ei ne h)) x e
 
-        hunts : (q : Place) → Hunt g b d p (record { place = q; cyan = w .cyan; R = w .R; outer = w .outer; inner = u; taken = upd (w .taken) s 0 }) z
-        hunts q =
+        hunts : Hunt g b d p (backs w z s u) z
+        hunts =
             record {
               under = hunt .under;
               top = hunt .top;
@@ -392,5 +310,7 @@ module _ {g : Graph} (sound : Sound g) {b : ℕ → Bool} {d : ℕ → Type 0} {
             }
 
         go : (v : List ℕ) → u ≡ v → Phase g b d p (backs w z s u) (cond (isEmpty v) (Waiting z) (Inner z))
-        go [] q = (hunts _, q)
-        go (y ∷ v) q = (hunts _, record { head = y; rest = v; stack = q; trail = subst (Trail g z s) q trail .1; once = subst Once ei (deep .once) .1 })
+        go [] q = (hunts, q)
+        go (y ∷ v) q =
+            let once = subst Once ei (deep .once) .1 in
+            (hunts, record { head = y; rest = v; stack = q; trail = subst (Trail g z s) q trail .1; once = once })

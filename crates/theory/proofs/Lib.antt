@@ -1,5 +1,6 @@
 -- The theorems, in the order of proof; the demands stand last.
 pub mod Phase
+pub mod Taken
 pub mod Rules
 pub mod Stacks
 pub mod Trail

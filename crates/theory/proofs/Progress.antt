@@ -49,7 +49,8 @@ is-done (Waiting z) e = absurd (clash e refl)
 is-done Done e = refl
 
 -- a move that changes nothing: the worker waits, or is done
-idle : {g : Graph} {P p : ℕ} {m : Machine} → p < P → (a : Made) → Rule g p m a → changes (a .move) ≡ false → Waits g P m p ⊎ (m .worker p .place ≡ Done)
+idle : {g : Graph} {P p : ℕ} {m : Machine} → p < P → (a : Made) → Rule g p m a → changes (a .move) ≡ false
+    → Waits g P m p ⊎ (m .worker p .place ≡ Done)
 idle h _ (by-start ep) e = absurd (clash refl e)
 idle h _ (by-skip ep eo er c) e = absurd (clash refl e)
 idle h _ (by-enter ep eo er c) e = absurd (clash refl e)
@@ -70,7 +71,9 @@ module _ {g : Graph} (sound : Sound g) {P : ℕ} {m : Machine} (v : Invariant g 
     holder q x n = go (below? q P)
       where
         up : (w : Waits g P m q) → Walk g x (w .seed)
-        up w = let h = waiting-hunt sound v (w .waits) in trail-from g 0 (w .seed) (h .under) (subst (Stacked g 0) (h .top) (v .local q .stacks .trail)) x (mem-to x (h .top) n)
+        up w =
+            let h = waiting-hunt sound v (w .waits) in
+            trail-from g 0 (w .seed) (h .under) (subst (Stacked g 0) (h .top) (v .local q .stacks .trail)) x (mem-to x (h .top) n)
 
         settled : Waits g P m q ⊎ (m .worker q .place ≡ Done) → (w : Waits g P m q) × Walk g x (w .seed)
         settled (inl w) = (w, up w)
@@ -93,7 +96,10 @@ module _ {g : Graph} (sound : Sound g) {P : ℕ} {m : Machine} (v : Invariant g 
         go (inr h) = absurd (subst (λ a. SeedAt a s) (v .spare q h) k)
 
     -- a waiting worker's seed leads to a waiting worker's seed
-    leads : (p : ℕ) (w : Waits g P m p) → (q : ℕ) × (w′ : Waits g P m q) × Far g (w .seed) (w′ .seed)
+    abbrev Next : (p : ℕ) → Waits g P m p → Type 0
+    Next p w = (q : ℕ) × (w′ : Waits g P m q) × Far g (w .seed) (w′ .seed)
+
+    leads : (p : ℕ) (w : Waits g P m p) → Next p w
     unfolding othersRed
     leads p w = finish (along a (hunt .way a in-R))
       where
@@ -106,42 +112,39 @@ module _ {g : Graph} (sound : Sound g) {P : ℕ} {m : Machine} (v : Invariant g 
         a : ℕ
         a = wanted .0
 
+        -- a is in R, accepting, not the seed and not red
         waited : Bool
         waited = m .worker p .R a && g .accepting a && not (eqb a (w .seed))
 
         not-red : m .red a ≡ false
         not-red = or-right (not waited) (m .red a) (wanted .2)
 
-        all-three : waited ≡ true
-        all-three = not-false waited (or-left (not waited) (m .red a) (wanted .2))
-
-        two : (m .worker p .R a && g .accepting a) ≡ true
-        two = and-cases (m .worker p .R a && g .accepting a) (not (eqb a (w .seed))) all-three .0
+        all-three : ((m .worker p .R a && g .accepting a) ≡ true) × (not (eqb a (w .seed)) ≡ true)
+        all-three =
+            and-cases (m .worker p .R a && g .accepting a) (not (eqb a (w .seed)))
+            (not-false waited (or-left (not waited) (m .red a) (wanted .2)))
 
         in-R : m .worker p .R a ≡ true
-        in-R = and-cases (m .worker p .R a) (g .accepting a) two .0
+        in-R = and-cases (m .worker p .R a) (g .accepting a) (all-three .0) .0
 
         accepts : g .accepting a ≡ true
-        accepts = and-cases (m .worker p .R a) (g .accepting a) two .1
+        accepts = and-cases (m .worker p .R a) (g .accepting a) (all-three .0) .1
 
         other : a ≢ w .seed
-        other q = clash (eq-eqb a (w .seed) q) (not-true (eqb a (w .seed)) (and-cases (m .worker p .R a && g .accepting a) (not (eqb a (w .seed))) all-three .1))
-
-        Next : Type 0
-        Next = (q : ℕ) × (w′ : Waits g P m q) × Far g (w .seed) (w′ .seed)
+        other q = clash (eq-eqb a (w .seed) q) (not-true (eqb a (w .seed)) (all-three .1))
 
         -- each state on the way is blue, or the first that is not is cyan for a waiting worker
-        along : (t : ℕ) → Within g (m .worker p .R) (w .seed) t → (m .blue t ≡ true) ⊎ Next
+        along : (t : ℕ) → Within g (m .worker p .R) (w .seed) t → (m .blue t ≡ true) ⊎ Next p w
         along _ here = inl (hunt .is-blue)
         along t (onward {t = y} k e r) = go (along y k)
           where
-            cyan : (m .blue t ≡ true) ⊎ ((q : ℕ) × (m .worker q .cyan t ≡ true)) → (m .blue t ≡ true) ⊎ Next
+            cyan : (m .blue t ≡ true) ⊎ ((q : ℕ) × (m .worker q .cyan t ≡ true)) → (m .blue t ≡ true) ⊎ Next p w
             cyan (inl b) = inl b
             cyan (inr c) =
                 let h = holder (c .0) t (v .local (c .0) .stacks .on t (c .1)) in
                 inr (c .0, h .0, walk-far (within-walk k) (far-join (edge-far e) (h .1)))
 
-            go : (m .blue y ≡ true) ⊎ Next → (m .blue t ≡ true) ⊎ Next
+            go : (m .blue y ≡ true) ⊎ Next p w → (m .blue t ≡ true) ⊎ Next p w
             go (inl b) = cyan (v .blue-next y t b e)
             go (inr f) = inr f
 
@@ -150,11 +153,11 @@ module _ {g : Graph} (sound : Sound g) {P : ℕ} {m : Machine} (v : Invariant g 
         far (onward k e r) ne = walk-far (within-walk k) (edge-far e)
 
         -- a itself is blue, so it is the seed of a waiting worker
-        finish : (m .blue a ≡ true) ⊎ Next → Next
+        finish : (m .blue a ≡ true) ⊎ Next p w → Next p w
         finish (inr f) = f
         finish (inl b) = go (v .blue-dead a accepts b)
           where
-            go : Dead m a ⊎ ((q : ℕ) × SeedAt (m .worker q .place) a) → Next
+            go : Dead m a ⊎ ((q : ℕ) × SeedAt (m .worker q .place) a) → Next p w
             go (inl d) = absurd (clash d not-red)
             go (inr c) = let s = seeded (c .0) a (c .1) in (c .0, s .0, rw (s .1) (far (hunt .way a in-R) other))
 
@@ -162,23 +165,26 @@ module _ {g : Graph} (sound : Sound g) {P : ℕ} {m : Machine} (v : Invariant g 
     chase : (k : ℕ) (l : List ℕ) → length l + k ≡ suc P → Once l → ((r : ℕ) → Mem r l → r < P) → (p : ℕ) (w : Waits g P m p)
         → ((r z : ℕ) → Mem r l → m .worker r .place ≡ Waiting z → Far g z (w .seed)) → ⊥
     chase zero l e once below p w far = omega (arith, once-bound P l once below)
-    chase (suc k) l e once below p w far = go (λ o b q w′ f. chase k (p ∷ l) (omega arith) o b q w′ f) (leads p w) (either (elem p l))
+    chase (suc k) l e once below p w far = go (leads p w) (either (elem p l)) (λ o b q w′ f. chase k (p ∷ l) (omega arith) o b q w′ f)
       where
         seed-is : (z : ℕ) → m .worker p .place ≡ Waiting z → z ≡ w .seed
         seed-is z q = let e : Waiting z ≡ Waiting (w .seed) = sym q ∙ w .waits in cc
 
-        go : (Once (p ∷ l) → ((r : ℕ) → Mem r (p ∷ l) → r < P) → (q : ℕ) (w′ : Waits g P m q) → ((r z : ℕ) → Mem r (p ∷ l) → m .worker r .place ≡ Waiting z → Far g z (w′ .seed)) → ⊥)
-            → (q : ℕ) × (w′ : Waits g P m q) × Far g (w .seed) (w′ .seed) → (elem p l ≡ true) ⊎ (elem p l ≡ false) → ⊥
-        go rest n (inl on) = seed-on-no-loop sound v (w .waits) (far p (w .seed) (elem-mem p l on) (w .waits))
-        go rest n (inr off) = rest (elem-not p l off, once) inside (n .0) (n .1) reach
-          where
-            inside : (r : ℕ) → Mem r (p ∷ l) → r < P
-            inside r (inl q) = rw q (w .below)
-            inside r (inr h) = below r h
+        inside : (r : ℕ) → Mem r (p ∷ l) → r < P
+        inside r (inl q) = rw q (w .below)
+        inside r (inr h) = below r h
 
-            reach : (r z : ℕ) → Mem r (p ∷ l) → m .worker r .place ≡ Waiting z → Far g z (n .1 .seed)
-            reach r z (inl q) at = rw (seed-is z (subst (λ i. m .worker i .place ≡ Waiting z) q at)) (n .2)
-            reach r z (inr h) at = far-join (far r z h at) (far-walk (n .2))
+        onward-far : {q : ℕ} (w′ : Waits g P m q) → Far g (w .seed) (w′ .seed) → (r z : ℕ) → Mem r (p ∷ l) → m .worker r .place ≡ Waiting z
+            → Far g z (w′ .seed)
+        onward-far w′ f r z (inl q) at = rw (seed-is z (subst (λ i. m .worker i .place ≡ Waiting z) q at)) f
+        onward-far w′ f r z (inr h) at = far-join (far r z h at) (far-walk f)
+
+        go : Next p w → (elem p l ≡ true) ⊎ (elem p l ≡ false)
+            → (Once (p ∷ l) → ((r : ℕ) → Mem r (p ∷ l) → r < P) → (q : ℕ) (w′ : Waits g P m q)
+            → ((r z : ℕ) → Mem r (p ∷ l) → m .worker r .place ≡ Waiting z → Far g z (w′ .seed)) → ⊥)
+            → ⊥
+        go n (inl on) rest = seed-on-no-loop sound v (w .waits) (far p (w .seed) (elem-mem p l on) (w .waits))
+        go (q, w′, f) (inr off) rest = rest (elem-not p l off, once) inside q w′ (onward-far w′ f)
 
     nobody-waits : (p : ℕ) → Waits g P m p → ⊥
     nobody-waits p w = chase (suc P) [] (omega arith) tt (λ r h. absurd h) p w (λ r z h at. absurd h)

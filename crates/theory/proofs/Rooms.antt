@@ -1,5 +1,5 @@
--- The room of every machine that turns can lead to: its stacks fit, so that it has the words that 01 counts and tells the machine, and a turn writes
--- only the shared colours and its worker's own stretch.
+-- The room of every machine that turns can lead to: its stacks fit, so that it has the words that 01 counts and tells the machine; and a turn
+-- writes only the shared colours and its worker's own stretch.
 use Prim.Native.Nat.{ℕ, suc, _*_, _<_, _≤_}
 use mathlib.Core.Path.{_≡_, refl}
 use mathlib.Core.List.{List, [], _∷_, _++_}

@@ -8,22 +8,30 @@ use mathlib.Core.Logic.{_⊎_, inl, inr}
 use native.Mathlib.Omega.{arith}
 use lib.ListN.{length}
 use Rattle.graphs.specs.Graph.{Graph, Sound}
+use Rattle.graphs.specs.Lasso.{MarkedLoop}
 use Rattle.graphs.proofs.Tests.{either}
+use Rattle.graphs.proofs.Lasso.{lasso-marked-loop}
 use Rattle.graphs.proofs.Every.{every-at, every-not}
 use Rattle.graphs.proofs.Change.{upd-same, upd-ind}
+use Rattle.moves.specs.declared.Place.the-variants.{Done}
 use Rattle.moves.specs.Place.{isDone}
 use Rattle.moves.specs.Machine.{Machine, start}
 use Rattle.moves.specs.Moves.{Made, takes, turn}
 use Rattle.moves.specs.Run.{Answer, cycle, none, undecided, allDone, quiet, answerTo, Result, begin, next, unlessAnswered, step, runFrom, run}
-use Rattle.theory.specs.Rules.{Rule, Hits}
+use Rattle.theory.specs.Rules.{Hits}
 use Rattle.theory.specs.Stacks.{Shallow}
 use Rattle.theory.specs.Invariant.{Invariant}
-use Rattle.theory.specs.Turns.{Named, Decided, Stands}
+use Rattle.theory.specs.Turns.{Named, wordOf, word-cycle, Decided, Right, Stands, AllShallow}
 use Rattle.theory.proofs.Rules.{obeys}
 use Rattle.theory.proofs.Depth.{local-shallow}
 use Rattle.theory.proofs.Hit.{hit-lasso, hit-once}
-use Rattle.theory.proofs.Whole.{keeps, begins, none-right}
+use Rattle.theory.proofs.Whole.{Keeps, keeps, begins, none-right}
 use Rattle.theory.proofs.Progress.{is-done}
+
+pub decided : (a : Answer) → (a ≡ undecided → ⊥) → Decided a
+decided (cycle stem loop) h = tt
+decided none h = tt
+decided undecided h = h refl
 
 module _ (g : Graph) (P : ℕ) where
   -- one list after another
@@ -53,7 +61,8 @@ module _ (g : Graph) (P : ℕ) where
   run-stays r (p ∷ l) d = rw (step-stays r p d) (run-stays r l d)
 
   -- a turn leaves the result as it is, or makes of it what the rules say
-  pub step-ind : (Q : Result → Type 0) (r : Result) (p : ℕ) → Q r → (r .answer ≡ undecided → Q (next P p r (turn g p (r .machine)))) → Q (step g P r p)
+  pub step-ind : (Q : Result → Type 0) (r : Result) (p : ℕ) → Q r → (r .answer ≡ undecided → Q (next P p r (turn g p (r .machine))))
+      → Q (step g P r p)
   step-ind Q r p stays goes = go (r .answer) refl
     where
       go : (a : Answer) → r .answer ≡ a → Q (step g P r p)
@@ -69,6 +78,22 @@ module _ (g : Graph) (P : ℕ) where
       go none q = sym q ∙ sym (ap (λ k. k .answer) (run-stays r l (rw q tt))) ∙ e
       go undecided q = refl
 
+  -- answers that are right of one graph have the same word
+  pub words-agree : (m m′ : Machine) (a b : Answer) → Right g P m a → Right g P m′ b → Decided a → Decided b → wordOf a ≡ wordOf b
+  words-agree m m′ (cycle s t) (cycle s′ t′) x y d c = refl
+  words-agree m m′ (cycle s t) none x y d c = absurd (y (lasso-marked-loop g s t (x .0)))
+  words-agree m m′ (cycle s t) undecided x y d c = absurd c
+  words-agree m m′ none (cycle s t) x y d c = absurd (x (lasso-marked-loop g s t (y .0)))
+  words-agree m m′ none none x y d c = refl
+  words-agree m m′ none undecided x y d c = absurd c
+  words-agree m m′ undecided b x y d c = absurd d
+
+  -- where there is a loop, a decided answer is "cycle"
+  pub word-finds : (m : Machine) (a : Answer) → Right g P m a → Decided a → MarkedLoop g → wordOf a ≡ word-cycle
+  word-finds m (cycle s t) x d l = refl
+  word-finds m none x d l = absurd (x l)
+  word-finds m undecided x d l = absurd d
+
   -- "undecided" only if the list ran out: every turn of it is used
   pub all-used : (r : Result) (l : List ℕ) → runFrom g P r l .answer ≡ undecided → runFrom g P r l .used ≡ r .used + length l
   unfolding runFrom
@@ -80,61 +105,65 @@ module _ (g : Graph) (P : ℕ) where
 
   module _ (sound : Sound g) (some : 0 < P) where
     -- after a move that keeps the invariant
-    quietly : (m : Machine) → Invariant g P m → Stands g P m (quiet P m)
+    quietly : (m : Machine) → Invariant g P m → Right g P m (quiet P m)
     unfolding allDone
     quietly m v = go (either (allDone P m))
       where
-        go : (allDone P m ≡ true) ⊎ (allDone P m ≡ false) → Stands g P m (cond (allDone P m) none undecided)
-        go (inl e) = rw e (none-right v some (λ q h. is-done (m .worker q .place) (every-at P (λ i. isDone (m .worker i .place)) e q h)))
+        done : allDone P m ≡ true → (q : ℕ) → q < P → m .worker q .place ≡ Done
+        done e q h = is-done (m .worker q .place) (every-at P (λ i. isDone (m .worker i .place)) e q h)
+
+        go : (allDone P m ≡ true) ⊎ (allDone P m ≡ false) → Right g P m (cond (allDone P m) none undecided)
+        go (inl e) = rw e (none-right v some (done e))
         go (inr e) = rw e (v, e)
 
-    -- after every move the answer is right
-    pub move-stands : (p : ℕ) (m : Machine) → p < P → Invariant g P m → (a : Made) → Rule g p m a → Stands g P (a .machine) (answerTo P p (a .machine) (a .move))
-    move-stands p m h v a rule = go (keeps sound v h a rule)
-      where
-        go : (Invariant g P (a .machine) × (answerTo P p (a .machine) (a .move) ≡ quiet P (a .machine))) ⊎ Hits g p m a → Stands g P (a .machine) (answerTo P p (a .machine) (a .move))
-        go (inl k) = rw (k .1) (quietly (a .machine) (k .0))
-        go (inr k) =
-            rw (k .made, upd-same (m .worker) p (takes (m .worker p) (k .top)))
-            (hit-lasso (v .local p) (k .place-is) (k .stack-is) sound (k .successors-are) (k .is-cyan), hit-once (v .local p) (k .place-is) (k .stack-is) (k .taken))
+    module _ (p : ℕ) (m : Machine) (h : p < P) (v : Invariant g P m) where
+      kept : Keeps g P p (turn g p m) ⊎ Hits g p m (turn g p m)
+      kept = keeps sound v h (turn g p m) (obeys g p m (v .local p))
 
-    pub step-stands : (r : Result) (p : ℕ) → p < P → Stands g P (r .machine) (r .answer) → Stands g P (step g P r p .machine) (step g P r p .answer)
-    step-stands r p h st = step-ind (λ k. Stands g P (k .machine) (k .answer)) r p st goes
-      where
-        goes : r .answer ≡ undecided → Stands g P (turn g p (r .machine) .machine) (answerTo P p (turn g p (r .machine) .machine) (turn g p (r .machine) .move))
-        goes e = let v = (rw e at st) .0 in move-stands p (r .machine) h v (turn g p (r .machine)) (obeys g p (r .machine) (v .local p))
+      -- after every move the answer is right
+      pub turn-right : Right g P (turn g p m .machine) (answerTo P p (turn g p m .machine) (turn g p m .move))
+      turn-right = go (turn g p m) kept
+        where
+          go : (a : Made) → Keeps g P p a ⊎ Hits g p m a → Right g P (a .machine) (answerTo P p (a .machine) (a .move))
+          go a (inl k) = rw (k .1) (quietly (a .machine) (k .0))
+          go a (inr k) =
+              let lasso = hit-lasso (v .local p) (k .place-is) (k .stack-is) sound (k .successors-are) (k .is-cyan) in
+              let once = hit-once (v .local p) (k .place-is) (k .stack-is) (k .taken) in
+              rw (k .made, upd-same (m .worker) p (takes (m .worker p) (k .top))) (lasso, once)
+
+      -- the stacks are shallow, also after a hit, which leaves them as they are
+      pub turn-shallow : AllShallow g (turn g p m .machine)
+      turn-shallow = go (turn g p m) kept
+        where
+          go : (a : Made) → Keeps g P p a ⊎ Hits g p m a → AllShallow g (a .machine)
+          go a (inl k) = λ q. local-shallow sound (k .0 .local q)
+          go a (inr k) =
+              rw (k .made)
+              (upd-ind (λ q w. Shallow (g .size) (w .outer) (w .inner)) (m .worker) p (takes (m .worker p) (k .top))
+              (local-shallow sound (v .local p)) (λ q ne. local-shallow sound (v .local q)))
+
+    pub step-stands : (r : Result) (p : ℕ) → p < P → Stands g P r → Stands g P (step g P r p)
+    step-stands r p h st = step-ind (Stands g P) r p st (λ e. turn-right p (r .machine) h ((rw e at st) .0))
 
     -- What a turn keeps that is run from a machine with the invariant holds wherever turns lead.
     pub run-ind : (Q : Result → Type 0)
-        → ((r : Result) (p : ℕ) → p < P → Invariant g P (r .machine) → r .answer ≡ undecided → Q r → Q (next P p r (turn g p (r .machine))))
-        → (r : Result) (l : List ℕ) → Named P l → Stands g P (r .machine) (r .answer) → Q r → Q (runFrom g P r l)
+        → ((r : Result) (p : ℕ) → p < P → Invariant g P (r .machine) → Q r → Q (next P p r (turn g p (r .machine))))
+        → (r : Result) (l : List ℕ) → Named P l → Stands g P r → Q r → Q (runFrom g P r l)
     unfolding runFrom
     run-ind Q keep r [] n st h = h
     run-ind Q keep r (p ∷ l) n st h =
         let below = n p (inl refl) in
-        run-ind Q keep (step g P r p) l (λ q m. n q (inr m)) (step-stands r p below st) (step-ind Q r p h (λ e. keep r p below ((rw e at st) .0) e h))
+        let one = step-ind Q r p h (λ e. keep r p below ((rw e at st) .0) h) in
+        run-ind Q keep (step g P r p) l (λ q m. n q (inr m)) (step-stands r p below st) one
 
-    pub run-stands : (r : Result) (l : List ℕ) → Named P l → Stands g P (r .machine) (r .answer) → Stands g P (runFrom g P r l .machine) (runFrom g P r l .answer)
-    run-stands r l n st = run-ind (λ k. Stands g P (k .machine) (k .answer)) (λ k p h v e s. move-stands p (k .machine) h v (turn g p (k .machine)) (obeys g p (k .machine) (v .local p))) r l n st st
+    pub run-stands : (r : Result) (l : List ℕ) → Named P l → Stands g P r → Stands g P (runFrom g P r l)
+    run-stands r l n st = run-ind (Stands g P) (λ k p h v s. turn-right p (k .machine) h v) r l n st st
 
-    pub begin-stands : Stands g P (begin .machine) (begin .answer)
+    pub begin-stands : Stands g P begin
     unfolding allDone
     begin-stands = (begins g P, every-not P (λ q. isDone (start .worker q .place)) 0 some refl)
 
-    -- Wherever turns lead, with an answer or without, the stacks are shallow: a hit leaves them as they are.
-    abbrev AllShallow : Machine → Type 0
-    AllShallow m = (q : ℕ) → Shallow (g .size) (m .worker q .outer) (m .worker q .inner)
-
-    move-shallow : (p : ℕ) (m : Machine) → p < P → Invariant g P m → (a : Made) → Rule g p m a → AllShallow (a .machine)
-    move-shallow p m h v a rule = go (keeps sound v h a rule)
-      where
-        go : (Invariant g P (a .machine) × (answerTo P p (a .machine) (a .move) ≡ quiet P (a .machine))) ⊎ Hits g p m a → AllShallow (a .machine)
-        go (inl k) = λ q. local-shallow sound (k .0 .local q)
-        go (inr k) =
-            rw (k .made)
-            (upd-ind (λ q w. Shallow (g .size) (w .outer) (w .inner)) (m .worker) p (takes (m .worker p) (k .top)) (local-shallow sound (v .local p)) (λ q ne. local-shallow sound (v .local q)))
-
-    pub run-shallow : (l : List ℕ) → Named P l → (q : ℕ) → Shallow (g .size) (run g P l .machine .worker q .outer) (run g P l .machine .worker q .inner)
+    pub run-shallow : (l : List ℕ) → Named P l → AllShallow g (run g P l .machine)
     run-shallow l n =
-        run-ind (λ k. AllShallow (k .machine)) (λ k p h v e s. move-shallow p (k .machine) h v (turn g p (k .machine)) (obeys g p (k .machine) (v .local p))) begin l n begin-stands
+        run-ind (λ k. AllShallow g (k .machine)) (λ k p h v s. turn-shallow p (k .machine) h v) begin l n begin-stands
         (λ q. local-shallow sound (begins g P .local q))

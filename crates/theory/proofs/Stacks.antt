@@ -24,10 +24,22 @@ mem-top {x} e = mem-of x e (inl refl)
 pub mem-under : {l k : List ℕ} {x : ℕ} (y : ℕ) → l ≡ x ∷ k → Mem y k → Mem y l
 mem-under y e h = mem-of y e (inr h)
 
+pub mem-rest : {l k : List ℕ} {s : ℕ} (x : ℕ) → l ≡ s ∷ k → x ≢ s → Mem x l → Mem x k
+mem-rest {k} {s} x e ne h = go (mem-to x e h)
+  where
+    go : Mem x (s ∷ k) → Mem x k
+    go (inl q) = absurd (ne q)
+    go (inr m) = m
+
 pub mem-nil : {l : List ℕ} (x : ℕ) → l ≡ [] → Mem x l → ⊥
 mem-nil x e h = mem-to x e h
 
 module _ {g : Graph} {c : ℕ → Bool} {o i : List ℕ} {k : ℕ → ℕ} where
+  -- only the inner stack and the counts change
+  pub stacks-inner : Stacks g c o i k → (i′ : List ℕ) (k′ : ℕ → ℕ) → ((x : ℕ) → (Mem x o → ⊥) → (Mem x i′ → ⊥) → k′ x ≡ 0)
+      → Stacks g c o i′ k′
+  stacks-inner st i′ k′ h = record { on = st .on; is = st .is; once = st .once; trail = st .trail; free = h }
+
   pub stacks-start : Stacks g c o i k → o ≡ [] → Stacks g (upd c 0 true) (0 ∷ []) i k
   stacks-start st e =
       record {
@@ -47,7 +59,8 @@ module _ {g : Graph} {c : ℕ → Bool} {o i : List ℕ} {k : ℕ → ℕ} where
       begun x (inr m) = absurd m
 
   pub stacks-take : Stacks g c o i k → (s : ℕ) → Mem s o ⊎ Mem s i → Stacks g c o i (upd k s (suc (k s)))
-  stacks-take st s h = record { on = st .on; is = st .is; once = st .once; trail = st .trail; free = λ x a b. upd-other k s _ x (apart x a b h) ∙ st .free x a b }
+  stacks-take st s h =
+      stacks-inner st i (upd k s (suc (k s))) (λ x a b. upd-other k s (suc (k s)) x (apart x a b h) ∙ st .free x a b)
     where
       apart : (x : ℕ) → (Mem x o → ⊥) → (Mem x i → ⊥) → Mem s o ⊎ Mem s i → x ≢ s
       apart x a b (inl m) q = a (subst (λ y. Mem y o) (sym q) m)
@@ -90,11 +103,7 @@ module _ {g : Graph} {c : ℕ → Bool} {o i : List ℕ} {k : ℕ → ℕ} where
 
       popped : (x : ℕ) → (x ≡ s) ⊎ (x ≢ s) → upd c s false x ≡ true → Mem x u
       popped x (inl q) h = absurd (clash h (rw q (upd-same c s false)))
-      popped x (inr ne) h = rest (mem-to x e (st .on x (sym (upd-other c s false x ne) ∙ h)))
-        where
-          rest : Mem x (s ∷ u) → Mem x u
-          rest (inl q) = absurd (ne q)
-          rest (inr m) = m
+      popped x (inr ne) h = mem-rest x e ne (st .on x (sym (upd-other c s false x ne) ∙ h))
 
       below : (v : List ℕ) → Stacked g 0 (s ∷ v) → Stacked g 0 v
       below [] t = tt
@@ -102,12 +111,4 @@ module _ {g : Graph} {c : ℕ → Bool} {o i : List ℕ} {k : ℕ → ℕ} where
 
       freed : (x : ℕ) → (Mem x u → ⊥) → (Mem x i → ⊥) → (x ≡ s) ⊎ (x ≢ s) → upd k s 0 x ≡ 0
       freed x a b (inl q) = rw q (upd-same k s 0)
-      freed x a b (inr ne) = upd-other k s 0 x ne ∙ st .free x (λ m. away (mem-to x e m)) b
-        where
-          away : Mem x (s ∷ u) → ⊥
-          away (inl q) = ne q
-          away (inr m) = a m
-
-  -- only the inner stack and the counts change
-  pub stacks-inner : Stacks g c o i k → (i′ : List ℕ) (k′ : ℕ → ℕ) → ((x : ℕ) → (Mem x o → ⊥) → (Mem x i′ → ⊥) → k′ x ≡ 0) → Stacks g c o i′ k′
-  stacks-inner st i′ k′ h = record { on = st .on; is = st .is; once = st .once; trail = st .trail; free = h }
+      freed x a b (inr ne) = upd-other k s 0 x ne ∙ st .free x (λ m. a (mem-rest x e ne m)) b

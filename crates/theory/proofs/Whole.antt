@@ -4,9 +4,8 @@ use Prim.Native.Nat.{ℕ, _<_, _≤_}
 use mathlib.Core.Path.{_≡_, refl, subst, sym, ap, _∙_}
 use mathlib.Core.Bool.{true, false, cond}
 use mathlib.Core.List.{List, [], _∷_}
-use mathlib.Core.Logic.{_⊎_, inl, inr, _≢_, ⊎-swap}
+use mathlib.Core.Logic.{_⊎_, inl, inr, _≢_, ⊎-swap, ⊎-map, ⊎-elim}
 use native.Mathlib.Omega.{arith}
-use lib.ListN.{drop}
 use borrow.Author.Tests.{ne-eqb}
 use Rattle.graphs.specs.Lists.{upd, Mem}
 use Rattle.graphs.specs.Graph.{Graph, Edge, Walk, stay, step, Far, Sound}
@@ -17,15 +16,20 @@ use Rattle.graphs.specs.Lasso.{MarkedLoop}
 use Rattle.moves.specs.declared.Place.the-variants.{Fresh, Outer, Inner, Waiting, Done}
 use Rattle.moves.specs.Place.{left, painted}
 use Rattle.moves.specs.Machine.{Worker, Machine, start, empty}
-use Rattle.moves.specs.Moves.{Made, isEmpty, starts, takes, enters, pops, seeds, joins, backs, put, putBlue, putRed, dyed, othersRed}
+use Rattle.moves.specs.Moves.{Made, isEmpty, pops, seeds, backs, put, putBlue, putRed, dyed, remaining, othersRed}
 use Rattle.moves.specs.Run.{answerTo, quiet}
 use Rattle.theory.specs.Rules.{Rule, Hits}
 use Rattle.theory.specs.Rules.{by-start, by-skip, by-enter, by-leave, by-seed, by-hit, by-pass, by-join, by-back, by-paint, by-wait, by-rest}
-use Rattle.theory.specs.Invariant.{Looked, Fine, Hunt, Climb, Local, Dead, SeedAt, Invariant}
+use Rattle.theory.specs.Invariant.{Looked, Fine, Hunt, Climb, SomeCyan, SomeSeed, Local, Dead, SeedAt, Invariant}
 use Rattle.theory.proofs.Stacks.{mem-top, mem-under, mem-nil}
 use Rattle.theory.proofs.Depth.{R-inside}
-use Rattle.theory.proofs.Phase.{at}
-use Rattle.theory.proofs.Keep.{all-of, local-more, start-keeps, skip-keeps, enter-keeps, seed-keeps, pop-keeps, pass-keeps, join-keeps, back-keeps}
+use Rattle.theory.proofs.Phase.{at, local-more}
+use Rattle.theory.proofs.Taken.{all-of}
+use Rattle.theory.proofs.Keep.{start-local, skip-local, enter-local, seed-local, pop-local, pass-local, join-local, back-local}
+
+-- the invariant holds after p's move, and only the places decide whether there is an answer
+abbrev pub Keeps : Graph → ℕ → ℕ → Made → Type 0
+Keeps g P p a = Invariant g P (a .machine) × (answerTo P p (a .machine) (a .move) ≡ quiet P (a .machine))
 
 module _ {g : Graph} (sound : Sound g) {P : ℕ} {m : Machine} (v : Invariant g P m) where
   -- worker p waits with the seed z
@@ -50,38 +54,39 @@ module _ {g : Graph} (sound : Sound g) {P : ℕ} {m : Machine} (v : Invariant g 
     pub seed-on-no-loop : Far g z z → ⊥
     seed-on-no-loop f = v .dead-no-loop z (waiting-hunt .accepts) (comes-dead (inl (waiting-hunt .own)) (f .edge) (f .walk)) f
 
+  -- worker p, below P, makes a move, and is w′ then
   module _ {p : ℕ} (h : p < P) where
     spare-on : (w′ : Worker) (q : ℕ) → P ≤ q → upd (m .worker) p w′ q .place ≡ Fresh
     spare-on w′ q le = ap (λ a. a .place) (upd-other (m .worker) p w′ q (λ e. absurd (omega arith))) ∙ v .spare q le
 
+    cyan-on : (w′ : Worker) (x : ℕ) → (m .worker p .cyan x ≡ true → w′ .cyan x ≡ true) → SomeCyan m x → SomeCyan (put m p w′) x
+    cyan-on w′ x own c = upd-some (λ a. a .cyan x ≡ true) (λ a. a .cyan x ≡ true) (m .worker) p w′ own (λ a e. e) (c .0) (c .1)
+
+    seed-on : (w′ : Worker) (s : ℕ) → (SeedAt (m .worker p .place) s → SeedAt (w′ .place) s) → SomeSeed m s → SomeSeed (put m p w′) s
+    seed-on w′ s own c = upd-some (λ a. SeedAt (a .place) s) (λ a. SeedAt (a .place) s) (m .worker) p w′ own (λ a e. e) (c .0) (c .1)
+
     -- nothing shared changes, no state loses cyan, and a seed stays one
     unshared : (w′ : Worker) → Local g (m .blue) (Dead m) p w′ → ((x : ℕ) → m .worker p .cyan x ≡ true → w′ .cyan x ≡ true)
         → ((s : ℕ) → SeedAt (m .worker p .place) s → SeedAt (w′ .place) s) → Invariant g P (put m p w′)
-    unshared w′ l′ cyans seeded =
+    unshared w′ l′ cyans seeds =
         record {
-          local = upd-ind (λ q a. Local g (m .blue) (Dead m) q a) (m .worker) p w′ l′ (λ q ne. v .local q);
+          local = upd-ind (Local g (m .blue) (Dead m)) (m .worker) p w′ l′ (λ q ne. v .local q);
           spare = spare-on w′;
           dead-next = v .dead-next;
-          blue-next = λ s t b e. looked t (v .blue-next s t b e);
-          blue-dead = λ s a b. known s (v .blue-dead s a b);
+          blue-next = λ s t b e. ⊎-map (λ k. k) (cyan-on w′ t (cyans t)) (v .blue-next s t b e);
+          blue-dead = λ s a b. ⊎-map (λ k. k) (seed-on w′ s (seeds s)) (v .blue-dead s a b);
           dead-no-loop = v .dead-no-loop;
         }
-      where
-        looked : (t : ℕ) → (m .blue t ≡ true) ⊎ ((q : ℕ) × (m .worker q .cyan t ≡ true)) → (m .blue t ≡ true) ⊎ ((q : ℕ) × (upd (m .worker) p w′ q .cyan t ≡ true))
-        looked t (inl b) = inl b
-        looked t (inr c) = inr (upd-some (λ a. a .cyan t ≡ true) (λ a. a .cyan t ≡ true) (m .worker) p w′ (cyans t) (λ a e. e) (c .0) (c .1))
-
-        known : (s : ℕ) → Dead m s ⊎ ((q : ℕ) × SeedAt (m .worker q .place) s) → Dead m s ⊎ ((q : ℕ) × SeedAt (upd (m .worker) p w′ q .place) s)
-        known s (inl d) = inl d
-        known s (inr c) = inr (upd-some (λ a. SeedAt (a .place) s) (λ a. SeedAt (a .place) s) (m .worker) p w′ (seeded s) (λ a e. e) (c .0) (c .1))
 
     -- move 3: s, all of whose successors were looked at, becomes blue; only s may lose cyan, and if s accepts it is the seed then
     blued : (s : ℕ) (w′ : Worker) → Local g (upd (m .blue) s true) (Dead m) p w′ → ((x : ℕ) → SeedAt (m .worker p .place) x → ⊥)
-        → ((x : ℕ) → Edge g s x → (m .blue x ≡ true) ⊎ (m .worker p .cyan x ≡ true)) → ((x : ℕ) → x ≢ s → m .worker p .cyan x ≡ true → w′ .cyan x ≡ true)
+        → ((x : ℕ) → Edge g s x → (m .blue x ≡ true) ⊎ (m .worker p .cyan x ≡ true))
+        → ((x : ℕ) → x ≢ s → m .worker p .cyan x ≡ true → w′ .cyan x ≡ true)
         → (g .accepting s ≡ true → SeedAt (w′ .place) s) → Invariant g P (putBlue m p w′ s)
     blued s w′ l′ seedless seen cyans seed =
         record {
-          local = upd-ind (λ q a. Local g (upd (m .blue) s true) (Dead m) q a) (m .worker) p w′ l′
+          local =
+              upd-ind (Local g (upd (m .blue) s true) (Dead m)) (m .worker) p w′ l′
               (λ q ne. local-more g q (m .worker q) (upd-up (m .blue) s) (λ x d. d) (v .local q));
           spare = spare-on w′;
           dead-next = v .dead-next;
@@ -90,30 +95,21 @@ module _ {g : Graph} (sound : Sound g) {P : ℕ} {m : Machine} (v : Invariant g 
           dead-no-loop = v .dead-no-loop;
         }
       where
-        next : (r t : ℕ) → Edge g r t → (r ≡ s) ⊎ (m .blue r ≡ true) → (m .blue t ≡ true) ⊎ ((q : ℕ) × (m .worker q .cyan t ≡ true))
-        next r t e (inl q) = of-p (seen t (subst (λ y. Edge g y t) q e))
-          where
-            of-p : (m .blue t ≡ true) ⊎ (m .worker p .cyan t ≡ true) → (m .blue t ≡ true) ⊎ ((q : ℕ) × (m .worker q .cyan t ≡ true))
-            of-p (inl b) = inl b
-            of-p (inr c) = inr (p, c)
+        next : (r t : ℕ) → Edge g r t → (r ≡ s) ⊎ (m .blue r ≡ true) → (m .blue t ≡ true) ⊎ SomeCyan m t
+        next r t e (inl q) = ⊎-map (λ b. b) (λ c. (p, c)) (seen t (subst (λ y. Edge g y t) q e))
         next r t e (inr b) = v .blue-next r t b e
 
-        looked : (t : ℕ) → (m .blue t ≡ true) ⊎ ((q : ℕ) × (m .worker q .cyan t ≡ true)) → (t ≡ s) ⊎ (t ≢ s)
-            → (upd (m .blue) s true t ≡ true) ⊎ ((q : ℕ) × (upd (m .worker) p w′ q .cyan t ≡ true))
+        looked : (t : ℕ) → (m .blue t ≡ true) ⊎ SomeCyan m t → (t ≡ s) ⊎ (t ≢ s)
+            → (upd (m .blue) s true t ≡ true) ⊎ SomeCyan (put m p w′) t
         looked t k (inl q) = inl (rw q (upd-same (m .blue) s true))
-        looked t (inl b) (inr ne) = inl (upd-up (m .blue) s t b)
-        looked t (inr c) (inr ne) = inr (upd-some (λ a. a .cyan t ≡ true) (λ a. a .cyan t ≡ true) (m .worker) p w′ (cyans t ne) (λ a e. e) (c .0) (c .1))
+        looked t k (inr ne) = ⊎-map (upd-up (m .blue) s t) (cyan-on w′ t (cyans t ne)) k
 
-        known : (r : ℕ) → g .accepting r ≡ true → (r ≡ s) ⊎ (m .blue r ≡ true) → Dead m r ⊎ ((q : ℕ) × SeedAt (upd (m .worker) p w′ q .place) r)
+        known : (r : ℕ) → g .accepting r ≡ true → (r ≡ s) ⊎ (m .blue r ≡ true) → Dead m r ⊎ SomeSeed (put m p w′) r
         known r a (inl q) = inr (p, rw (upd-same (m .worker) p w′, q) (seed (subst (λ y. g .accepting y ≡ true) q a)))
-        known r a (inr b) = go (v .blue-dead r a b)
-          where
-            go : Dead m r ⊎ ((q : ℕ) × SeedAt (m .worker q .place) r) → Dead m r ⊎ ((q : ℕ) × SeedAt (upd (m .worker) p w′ q .place) r)
-            go (inl d) = inl d
-            go (inr c) = inr (upd-some (λ a. SeedAt (a .place) r) (λ a. SeedAt (a .place) r) (m .worker) p w′ (λ y. absurd (seedless r y)) (λ a e. e) (c .0) (c .1))
+        known r a (inr b) = ⊎-map (λ d. d) (seed-on w′ r (λ y. absurd (seedless r y))) (v .blue-dead r a b)
 
     -- the outer search, whose top s has no successor left
-    module _ {s : ℕ} {u : List ℕ} (ep : m .worker p .place ≡ Outer) (eo : m .worker p .outer ≡ s ∷ u) (er : drop (m .worker p .taken s) (g .order p s) ≡ []) where
+    module _ {s : ℕ} {u : List ℕ} (ep : m .worker p .place ≡ Outer) (eo : m .worker p .outer ≡ s ∷ u) (er : remaining g p m s ≡ []) where
       climb : Climb g (m .blue) p (m .worker p)
       climb = at (v .local p) ep
 
@@ -126,103 +122,126 @@ module _ {g : Graph} (sound : Sound g) {P : ℕ} {m : Machine} (v : Invariant g 
       leave-keeps : g .accepting s ≡ false → Invariant g P (putBlue m p (pops (m .worker p) s u (left Outer (isEmpty u)) (m .worker p .R)) s)
       leave-keeps off =
           blued s (pops (m .worker p) s u (left Outer (isEmpty u)) (m .worker p .R))
-          (pop-keeps sound (v .local p) (upd (m .blue) s true) (Dead m) s u (m .worker p .R) eo (climb .calm .bare)
-          (λ t n. climb .looked t (mem-under t eo n)) (upd-up (m .blue) s) (upd-same (m .blue) s true) (climb .calm .clear))
+          (pop-local sound (v .local p) eo (climb .calm .bare) looked (upd-up (m .blue) s) (upd-same (m .blue) s true) (climb .calm .clear))
           seedless seen (λ x ne c. upd-other (m .worker p .cyan) s false x ne ∙ c) (λ a. absurd (clash a off))
+        where
+          looked : Looked g (m .blue) p (m .worker p) u
+          looked t n = climb .looked t (mem-under t eo n)
 
-      seeds-keeps : g .accepting s ≡ true → Invariant g P (putBlue m p (seeds (m .worker p) s) s)
-      seeds-keeps acc =
-          blued s (seeds (m .worker p) s) (seed-keeps sound (v .local p) ep eo acc)
-          seedless seen (λ x ne c. c) (λ a. refl)
+      seed-keeps : g .accepting s ≡ true → Invariant g P (putBlue m p (seeds (m .worker p) s) s)
+      seed-keeps on = blued s _ (seed-local sound (v .local p) ep eo on) seedless seen (λ x ne c. c) (λ a. refl)
 
     -- move 6: all of R becomes red at once
-    paint-keeps : (z : ℕ) (u : List ℕ) → m .worker p .place ≡ Waiting z → m .worker p .outer ≡ z ∷ u → othersRed g p m z ≡ true
-        → Invariant g P (putRed m p (pops (m .worker p) z u (painted (Waiting z) (isEmpty u)) empty))
-    unfolding othersRed
-    paint-keeps z u ep eo reds =
-        record {
-          local = upd-ind (λ q a. Local g (m .blue) Dead′ q a) (m .worker) p w′
-              (pop-keeps sound (v .local p) (m .blue) Dead′ z u empty eo (waiting-bare ep) looked (λ x b. b) (hunt .is-blue) (λ x. refl))
-              (λ q ne. local-more g q (m .worker q) (λ x b. b) dies (v .local q));
-          spare = spare-on w′;
-          dead-next = λ s t d e. next s t e (or-cases (m .red s) (m .worker p .R s) d);
-          blue-next = λ s t b e. seen t (v .blue-next s t b e) (same? t z);
-          blue-dead = λ s a b. known s (v .blue-dead s a b);
-          dead-no-loop = λ s a d. no-loop s a (or-cases (m .red s) (m .worker p .R s) d);
-        }
-      where
-        hunt : Hunt g (m .blue) (Dead m) p (m .worker p) z
-        hunt = waiting-hunt ep
+    module _ {z : ℕ} {u : List ℕ} (ep : m .worker p .place ≡ Waiting z) (eo : m .worker p .outer ≡ z ∷ u) where
+      hunt : Hunt g (m .blue) (Dead m) p (m .worker p) z
+      hunt = waiting-hunt ep
 
-        w′ : Worker
-        w′ = pops (m .worker p) z u (painted (Waiting z) (isEmpty u)) empty
+      abbrev Dead′ : ℕ → Type 0
+      Dead′ x = dyed m p x ≡ true
 
-        Dead′ : ℕ → Type 0
-        Dead′ x = dyed m p x ≡ true
+      stays-dead : (x : ℕ) → Dead m x → Dead′ x
+      stays-dead x d = or-inl (m .red x) (m .worker p .R x) d
 
-        dies : (x : ℕ) → Dead m x → Dead′ x
-        dies x d = or-inl (m .red x) (m .worker p .R x) d
+      turns-dead : (x : ℕ) → m .worker p .R x ≡ true → Dead′ x
+      turns-dead x r = or-inr (m .red x) (m .worker p .R x) r
 
-        joins-dead : (x : ℕ) → m .worker p .R x ≡ true → Dead′ x
-        joins-dead x r = or-inr (m .red x) (m .worker p .R x) r
+      paint-keeps : othersRed g p m z ≡ true → Invariant g P (putRed m p (pops (m .worker p) z u (painted (Waiting z) (isEmpty u)) empty))
+      unfolding othersRed
+      paint-keeps reds =
+          record {
+            local =
+                upd-ind (Local g (m .blue) Dead′) (m .worker) p w′
+                (pop-local sound (v .local p) eo (waiting-bare ep) looked (λ x b. b) (hunt .is-blue) (λ x. refl))
+                (λ q ne. local-more g q (m .worker q) (λ x b. b) stays-dead (v .local q));
+            spare = spare-on w′;
+            dead-next = λ s t d e. next s t e (or-cases (m .red s) (m .worker p .R s) d);
+            blue-next = λ s t b e. seen t (v .blue-next s t b e) (same? t z);
+            blue-dead = λ s a b. known s (v .blue-dead s a b);
+            dead-no-loop = λ s a d. no-loop s a (or-cases (m .red s) (m .worker p .R s) d);
+          }
+        where
+          w′ : Worker
+          w′ = pops (m .worker p) z u (painted (Waiting z) (isEmpty u)) empty
 
-        looked : Looked g (m .blue) p (m .worker p) u
-        looked t n = hunt .looked t (subst (Mem t) same n)
-          where
-            same : u ≡ hunt .under
-            same = let e : z ∷ u ≡ z ∷ hunt .under = sym eo ∙ hunt .top in cc
+          looked : Looked g (m .blue) p (m .worker p) u
+          looked t n = hunt .looked t (subst (Mem t) same n)
+            where
+              same : u ≡ hunt .under
+              same = let e : z ∷ u ≡ z ∷ hunt .under = sym eo ∙ hunt .top in cc
 
-        next : (s t : ℕ) → Edge g s t → Dead m s ⊎ (m .worker p .R s ≡ true) → Dead′ t
-        next s t e (inl d) = dies t (v .dead-next s t d e)
-        next s t e (inr r) = go (waiting-next ep s t r e .1)
-          where
-            go : (m .worker p .R t ≡ true) ⊎ Dead m t → Dead′ t
-            go (inl k) = joins-dead t k
-            go (inr d) = dies t d
+          next : (s t : ℕ) → Edge g s t → Dead m s ⊎ (m .worker p .R s ≡ true) → Dead′ t
+          next s t e (inl d) = stays-dead t (v .dead-next s t d e)
+          next s t e (inr r) = ⊎-elim (turns-dead t) (stays-dead t) (waiting-next ep s t r e .1)
 
-        seen : (t : ℕ) → (m .blue t ≡ true) ⊎ ((q : ℕ) × (m .worker q .cyan t ≡ true)) → (t ≡ z) ⊎ (t ≢ z)
-            → (m .blue t ≡ true) ⊎ ((q : ℕ) × (upd (m .worker) p w′ q .cyan t ≡ true))
-        seen t k (inl q) = inl (rw q (hunt .is-blue))
-        seen t (inl b) (inr ne) = inl b
-        seen t (inr c) (inr ne) = inr (upd-some (λ a. a .cyan t ≡ true) (λ a. a .cyan t ≡ true) (m .worker) p w′ (λ e. upd-other (m .worker p .cyan) z false t ne ∙ e) (λ a e. e) (c .0) (c .1))
+          seen : (t : ℕ) → (m .blue t ≡ true) ⊎ SomeCyan m t → (t ≡ z) ⊎ (t ≢ z) → (m .blue t ≡ true) ⊎ SomeCyan (put m p w′) t
+          seen t k (inl q) = inl (rw q (hunt .is-blue))
+          seen t k (inr ne) = ⊎-map (λ b. b) (cyan-on w′ t (λ e. upd-other (m .worker p .cyan) z false t ne ∙ e)) k
 
-        known : (s : ℕ) → Dead m s ⊎ ((q : ℕ) × SeedAt (m .worker q .place) s) → Dead′ s ⊎ ((q : ℕ) × SeedAt (upd (m .worker) p w′ q .place) s)
-        known s (inl d) = inl (dies s d)
-        known s (inr c) = go (same? (c .0) p)
-          where
-            go : (c .0 ≡ p) ⊎ (c .0 ≢ p) → Dead′ s ⊎ ((q : ℕ) × SeedAt (upd (m .worker) p w′ q .place) s)
-            go (inl q) = let e : z ≡ s = subst (λ a. SeedAt a s) ep (subst (λ k. SeedAt (m .worker k .place) s) q (c .1)) in inl (rw (sym e) (joins-dead z (hunt .own)))
-            go (inr ne) = inr (c .0, rw (upd-other (m .worker) p w′ (c .0) ne) (c .1))
+          known : (s : ℕ) → Dead m s ⊎ SomeSeed m s → Dead′ s ⊎ SomeSeed (put m p w′) s
+          known s (inl d) = inl (stays-dead s d)
+          known s (inr (q, k)) = go (same? q p)
+            where
+              go : (q ≡ p) ⊎ (q ≢ p) → Dead′ s ⊎ SomeSeed (put m p w′) s
+              go (inl same) =
+                  let e : z ≡ s = subst (λ a. SeedAt a s) ep (subst (λ i. SeedAt (m .worker i .place) s) same k) in
+                  inl (rw (sym e) (turns-dead z (hunt .own)))
+              go (inr ne) = inr (q, rw (upd-other (m .worker) p w′ q ne) k)
 
-        -- the only accepting state that turns red is the seed
-        no-loop : (s : ℕ) → g .accepting s ≡ true → Dead m s ⊎ (m .worker p .R s ≡ true) → Far g s s → ⊥
-        no-loop s a (inl d) f = v .dead-no-loop s a d f
-        no-loop s a (inr r) f = go (same? s z)
-          where
-            red : s ≢ z → m .red s ≡ true
-            red ne = rw (r, a, ne-eqb s z ne) at (every-at (g .size) _ reds s (R-inside sound (v .local p) s r))
+          -- the only accepting state that turns red is the seed
+          no-loop : (s : ℕ) → g .accepting s ≡ true → Dead m s ⊎ (m .worker p .R s ≡ true) → Far g s s → ⊥
+          no-loop s a (inl d) f = v .dead-no-loop s a d f
+          no-loop s a (inr r) f = go (same? s z)
+            where
+              red : s ≢ z → m .red s ≡ true
+              red ne = rw (r, a, ne-eqb s z ne) at (every-at (g .size) _ reds s (R-inside sound (v .local p) s r))
 
-            go : (s ≡ z) ⊎ (s ≢ z) → ⊥
-            go (inl q) = seed-on-no-loop ep (subst (λ k. Far g k k) q f)
-            go (inr ne) = v .dead-no-loop s a (red ne) f
+              go : (s ≡ z) ⊎ (s ≢ z) → ⊥
+              go (inl q) = seed-on-no-loop ep (subst (λ k. Far g k k) q f)
+              go (inr ne) = v .dead-no-loop s a (red ne) f
 
-    -- every move but the take that answers "cycle" keeps the invariant, and then only the places decide whether there is an answer
-    pub keeps : (a : Made) → Rule g p m a → (Invariant g P (a .machine) × (answerTo P p (a .machine) (a .move) ≡ quiet P (a .machine))) ⊎ Hits g p m a
-    keeps _ (by-start ep) = inl (unshared (starts (m .worker p)) (start-keeps sound (v .local p) ep) (upd-up (m .worker p .cyan) 0) (λ s e. absurd (subst (λ q. SeedAt q s) ep e)), refl)
-    keeps _ (by-skip {s} {x} {u} {l} ep eo er c) = inl (unshared (takes (m .worker p) s) (skip-keeps sound (v .local p) ep eo er (⊎-swap (or-cases (m .worker p .cyan x) (m .blue x) c))) (λ y e. e) (λ y e. e), refl)
-    keeps _ (by-enter {s} {x} {u} {l} ep eo er c) = inl (unshared (enters (m .worker p) s x) (enter-keeps sound (v .local p) ep eo er (or-left (m .worker p .cyan x) (m .blue x) c)) (upd-up (m .worker p .cyan) x) (λ y e. e), refl)
-    keeps _ (by-leave {s} {u} ep eo er c) = inl (leave-keeps ep eo er c, refl)
-    keeps _ (by-seed {s} {u} ep eo er c) = inl (seeds-keeps ep eo er c, refl)
-    keeps _ (by-hit {z} {s} {x} {u} {l} ep ei er c) =
-        inr (record { seed = z; top = s; under = u; taken = x; later = l; place-is = ep; stack-is = ei; successors-are = er; is-cyan = c; made = refl })
-    keeps _ (by-pass {z} {s} {x} {u} {l} ep ei er c r) = inl (unshared (takes (m .worker p) s) (pass-keeps sound (v .local p) ep ei er (c, or-cases (m .worker p .R x) (m .red x) r)) (λ y e. e) (λ y e. e), refl)
-    keeps _ (by-join {z} {s} {x} {u} {l} ep ei er c r) = inl (unshared (joins (m .worker p) s x) (join-keeps sound (v .local p) ep ei er c (or-left (m .worker p .R x) (m .red x) r)) (λ y e. e) (λ y e. e), refl)
-    keeps _ (by-back {z} {s} {u} ep ei er) = inl (unshared (backs (m .worker p) z s u) (back-keeps sound (v .local p) ep ei er) (λ y e. e) (λ y e. seed-stays u y (subst (λ q. SeedAt q y) ep e)), refl)
+    back-keeps : {z s : ℕ} {u : List ℕ} → m .worker p .place ≡ Inner z → m .worker p .inner ≡ s ∷ u → remaining g p m s ≡ []
+        → Invariant g P (put m p (backs (m .worker p) z s u))
+    back-keeps {z} {s} {u} ep ei er =
+        unshared _ (back-local sound (v .local p) ep ei er) (λ y e. e) (λ y e. seed-stays u y (subst (λ q. SeedAt q y) ep e))
       where
         seed-stays : (k : List ℕ) (y : ℕ) → z ≡ y → SeedAt (cond (isEmpty k) (Waiting z) (Inner z)) y
         seed-stays [] y e = e
         seed-stays (x ∷ k) y e = e
-    keeps _ (by-paint {z} {u} ep eo c) = inl (paint-keeps z u ep eo c, refl)
+
+    -- every move but the take that answers "cycle" keeps the invariant, and then only the places decide whether there is an answer
+    pub keeps : (a : Made) → Rule g p m a → Keeps g P p a ⊎ Hits g p m a
+    keeps _ (by-start ep) =
+        inl (unshared _ (start-local sound (v .local p) ep) (upd-up (m .worker p .cyan) 0) (λ s e. absurd (subst (λ q. SeedAt q s) ep e)), refl)
+    keeps _ (by-skip {x = x} ep eo er c) =
+        let seen = ⊎-swap (or-cases (m .worker p .cyan x) (m .blue x) c) in
+        inl (unshared _ (skip-local sound (v .local p) ep eo er seen) (λ y e. e) (λ y e. e), refl)
+    keeps _ (by-enter {x = x} ep eo er c) =
+        let off = or-left (m .worker p .cyan x) (m .blue x) c in
+        inl (unshared _ (enter-local sound (v .local p) ep eo er off) (upd-up (m .worker p .cyan) x) (λ y e. e), refl)
+    keeps _ (by-leave ep eo er c) = inl (leave-keeps ep eo er c, refl)
+    keeps _ (by-seed ep eo er c) = inl (seed-keeps ep eo er c, refl)
+    keeps _ (by-hit {z} {s} {x} {u} {l} ep ei er c) =
+        inr
+        record {
+          seed = z;
+          top = s;
+          under = u;
+          taken = x;
+          later = l;
+          place-is = ep;
+          stack-is = ei;
+          successors-are = er;
+          is-cyan = c;
+          made = refl;
+        }
+    keeps _ (by-pass {x = x} ep ei er c r) =
+        let known = or-cases (m .worker p .R x) (m .red x) r in
+        inl (unshared _ (pass-local sound (v .local p) ep ei er (c, known)) (λ y e. e) (λ y e. e), refl)
+    keeps _ (by-join {x = x} ep ei er c r) =
+        let out = or-left (m .worker p .R x) (m .red x) r in
+        inl (unshared _ (join-local sound (v .local p) ep ei er c out) (λ y e. e) (λ y e. e), refl)
+    keeps _ (by-back ep ei er) = inl (back-keeps ep ei er, refl)
+    keeps _ (by-paint ep eo c) = inl (paint-keeps ep eo c, refl)
     keeps _ (by-wait ep c) = inl (v, refl)
     keeps _ (by-rest ep) = inl (v, refl)
 
@@ -242,42 +261,31 @@ begins g P =
     }
 
 -- "none": where every worker is done, no loop through a mark can be reached.
-pub none-right : {g : Graph} {P : ℕ} {m : Machine} → Invariant g P m → 0 < P → ((q : ℕ) → q < P → m .worker q .place ≡ Done) → MarkedLoop g → ⊥
-none-right {g} {P} {m} v some done l = v .dead-no-loop (l .mark) (l .accepts) (dead (v .blue-dead (l .mark) (l .accepts) (blue-on 0 (l .mark) first (l .reached)))) (l .loops)
+pub none-right : {g : Graph} {P : ℕ} {m : Machine} → Invariant g P m → 0 < P
+    → ((q : ℕ) → q < P → m .worker q .place ≡ Done) → MarkedLoop g → ⊥
+none-right {g} {P} {m} v some done l = v .dead-no-loop (l .mark) (l .accepts) dead (l .loops)
   where
     -- no worker is anywhere
     gone : (q : ℕ) → (m .worker q .place ≡ Done) ⊎ (m .worker q .place ≡ Fresh)
-    gone q = go (below? q P)
-      where
-        go : (q < P) ⊎ (P ≤ q) → (m .worker q .place ≡ Done) ⊎ (m .worker q .place ≡ Fresh)
-        go (inl h) = inl (done q h)
-        go (inr h) = inr (v .spare q h)
+    gone q = ⊎-map (done q) (v .spare q) (below? q P)
 
     colourless : (q x : ℕ) → m .worker q .cyan x ≡ true → ⊥
-    colourless q x c = go (gone q)
+    colourless q x c = mem-nil x bare (v .local q .stacks .on x c)
       where
-        go : (m .worker q .place ≡ Done) ⊎ (m .worker q .place ≡ Fresh) → ⊥
-        go (inl e) = mem-nil x (at (v .local q) e .0) (v .local q .stacks .on x c)
-        go (inr e) = mem-nil x (at (v .local q) e .0) (v .local q .stacks .on x c)
+        bare : m .worker q .outer ≡ []
+        bare = ⊎-elim (λ (e : m .worker q .place ≡ Done). at (v .local q) e .0) (λ (e : m .worker q .place ≡ Fresh). at (v .local q) e .0) (gone q)
 
     seedless : (q x : ℕ) → SeedAt (m .worker q .place) x → ⊥
-    seedless q x k = go (gone q)
-      where
-        go : (m .worker q .place ≡ Done) ⊎ (m .worker q .place ≡ Fresh) → ⊥
-        go (inl e) = subst (λ a. SeedAt a x) e k
-        go (inr e) = subst (λ a. SeedAt a x) e k
+    seedless q x k = ⊎-elim (λ e. subst (λ a. SeedAt a x) e k) (λ e. subst (λ a. SeedAt a x) e k) (gone q)
 
     first : m .blue 0 ≡ true
     first = at (v .local 0) (done 0 some) .2
 
     blue-on : (s t : ℕ) → m .blue s ≡ true → Walk g s t → m .blue t ≡ true
     blue-on s _ b stay = b
-    blue-on s t b (step e w) = blue-on _ t (go (v .blue-next s _ b e)) w
-      where
-        go : {x : ℕ} → (m .blue x ≡ true) ⊎ ((q : ℕ) × (m .worker q .cyan x ≡ true)) → m .blue x ≡ true
-        go (inl k) = k
-        go {x} (inr c) = absurd (colourless (c .0) x (c .1))
+    blue-on s t b (step {t = x} e w) = blue-on x t (⊎-elim (λ k. k) (λ c. absurd (colourless (c .0) x (c .1))) (v .blue-next s x b e)) w
 
-    dead : Dead m (l .mark) ⊎ ((q : ℕ) × SeedAt (m .worker q .place) (l .mark)) → Dead m (l .mark)
-    dead (inl d) = d
-    dead (inr c) = absurd (seedless (c .0) (l .mark) (c .1))
+    dead : Dead m (l .mark)
+    dead =
+        let blue = blue-on 0 (l .mark) first (l .reached) in
+        ⊎-elim (λ d. d) (λ c. absurd (seedless (c .0) (l .mark) (c .1))) (v .blue-dead (l .mark) (l .accepts) blue)

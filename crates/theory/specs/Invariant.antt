@@ -88,11 +88,18 @@ SeedAt (Inner z) s = z ≡ s
 SeedAt (Waiting z) s = z ≡ s
 SeedAt Done s = ⊥
 
+-- x is cyan for some worker; s is some worker's seed
+abbrev pub SomeCyan : Machine → ℕ → Type 0
+SomeCyan m x = (q : ℕ) × (m .worker q .cyan x ≡ true)
+
+abbrev pub SomeSeed : Machine → ℕ → Type 0
+SomeSeed m s = (q : ℕ) × SeedAt (m .worker q .place) s
+
 -- The workers from P on never move, so that "some worker" needs no bound.
 pub record Invariant (g : Graph) (P : ℕ) (m : Machine) : Type 0 where
   pub local : (q : ℕ) → Local g (m .blue) (Dead m) q (m .worker q)
   pub spare : (q : ℕ) → P ≤ q → m .worker q .place ≡ Fresh
   pub dead-next : (s t : ℕ) → Dead m s → Edge g s t → Dead m t
-  pub blue-next : (s t : ℕ) → m .blue s ≡ true → Edge g s t → (m .blue t ≡ true) ⊎ ((q : ℕ) × (m .worker q .cyan t ≡ true))
-  pub blue-dead : (s : ℕ) → g .accepting s ≡ true → m .blue s ≡ true → Dead m s ⊎ ((q : ℕ) × SeedAt (m .worker q .place) s)
+  pub blue-next : (s t : ℕ) → m .blue s ≡ true → Edge g s t → (m .blue t ≡ true) ⊎ SomeCyan m t
+  pub blue-dead : (s : ℕ) → g .accepting s ≡ true → m .blue s ≡ true → Dead m s ⊎ SomeSeed m s
   pub dead-no-loop : (s : ℕ) → g .accepting s ≡ true → Dead m s → Far g s s → ⊥
