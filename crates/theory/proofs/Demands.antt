@@ -1,13 +1,13 @@
 -- What a run promises, for all turn lists, all numbers of workers from 1 on, all graphs and all orders of looking (`Sound`). The words in quotes
 -- are those of the demands; a machine that turns can lead to is that of `run g P l`. At the end, the same of the words of a graph.
 use Prim.Native.Nat.{ℕ, _+_, _-_, _*_, _<_, _≤_}
-use mathlib.Core.Path.{_≡_, sym, ap, _∙_}
+use mathlib.Core.Path.{_≡_, sym, ap, subst, _∙_}
 use mathlib.Core.Bool.{true}
 use mathlib.Core.List.{List, [], _∷_, _++_}
 use mathlib.Core.Logic.{_≢_, ⊎-elim}
 use native.Mathlib.Omega.{arith}
 use native.Mathlib.Nat.{le-of-eq}
-use lib.ListN.{length}
+use lib.ListN.{length, take}
 use Rattle.graphs.specs.Lists.{Once}
 use Rattle.graphs.specs.Graph.{Graph, Sound, graph}
 use Rattle.graphs.specs.Lasso.{Lasso, MarkedLoop}
@@ -17,7 +17,8 @@ use Rattle.graphs.proofs.Words.{words-are, words-sound, edges-are}
 use Rattle.moves.specs.Moves.{turn}
 use Rattle.moves.specs.Run.{cycle, none, undecided, begin, next, step, runFrom, run, rounds, runRounds}
 use Rattle.theory.specs.Turns.{Named, Cut, CanMove, Counts, mostMoves, runToEnd, wordOf, word-cycle, Decided, Stands, AllShallow}
-use Rattle.theory.proofs.Run.{decided, run-join, step-goes, run-stays, all-used, words-agree, word-finds, run-stands, begin-stands, run-shallow}
+use Rattle.theory.proofs.Run.{decided, run-join, step-goes, run-stays, all-used, used-turns, words-agree, word-finds}
+use Rattle.theory.proofs.Run.{run-stands, begin-stands, run-shallow}
 use Rattle.theory.proofs.Ends.{can-move, change-differs, step-counts, run-paid, cut-ends, rounds-named, rounds-cut, rounds-longer}
 use Rattle.theory.proofs.Total.{start-total}
 
@@ -34,6 +35,13 @@ module _ (g : Graph) (P : ℕ) where
 
   pub answer-stays : (l k : List ℕ) → Decided (run g P l .answer) → run g P (l ++ k) ≡ run g P l
   answer-stays l k d = run-join g P begin l k ∙ run-stays g P (run g P l) k d
+
+  -- 01: "the result tells how many were used": so many first turns of the list give the result
+  pub used-suffice : (l : List ℕ) → run g P (take (run g P l .used) l) ≡ run g P l
+  used-suffice l =
+      let (k, le, used, same) = used-turns g P begin l in
+      let all : k ≡ run g P l .used = omega (arith, used) in
+      subst (λ i. run g P (take i l) ≡ run g P l) all same
 
   -- ""undecided" only if the list ran out first"
   pub undecided-ran-out : (l : List ℕ) → run g P l .answer ≡ undecided → run g P l .used ≡ length l

@@ -22,9 +22,10 @@ use Rattle.theory.specs.Invariant.{Invariant}
 use Rattle.theory.specs.Turns.{Named, NamesAll, CanMove, Counts, Cut, Decided, Stands}
 use Rattle.theory.specs.Cost.{total}
 use Rattle.theory.proofs.Rules.{obeys}
+use Rattle.theory.proofs.Idle.{Kind, counted, passed-over, kind, still}
 use Rattle.theory.proofs.Progress.{progress}
 use Rattle.theory.proofs.Run.{run-join, step-goes, run-stays, open-before, step-stands, run-ind, run-stands}
-use Rattle.theory.proofs.Total.{Kind, counted, passed-over, kind, falls, still, paid, no-more}
+use Rattle.theory.proofs.Total.{falls, paid, no-more}
 
 module _ (g : Graph) (sound : Sound g) (P : ℕ) (some : 0 < P) where
   -- the moves that are left
@@ -50,7 +51,7 @@ module _ (g : Graph) (sound : Sound g) (P : ℕ) (some : 0 < P) where
     step-falls p h c = rw (step-goes g P r p e) (falls sound invariant h (turn g p (r .machine)) (rule p) c)
 
     step-still : (p : ℕ) → changes (turn g p (r .machine) .move) ≡ false → step g P r p .machine ≡ r .machine
-    step-still p c = rw (step-goes g P r p e) (still (turn g p (r .machine)) (rule p) c)
+    step-still p c = rw (step-goes g P r p e) (still (turn g p (r .machine)) (rule p) c .0)
 
     pub change-differs : (p : ℕ) → p < P → CanMove g (r .machine) p → turn g p (r .machine) .machine ≢ r .machine
     change-differs p h c same = omega (arith, falls sound invariant h (turn g p (r .machine)) (rule p) c, ap (total g P) same)
@@ -59,9 +60,9 @@ module _ (g : Graph) (sound : Sound g) (P : ℕ) (some : 0 < P) where
     pub step-counts : (p : ℕ) → p < P → Counts r (step g P r p)
     step-counts p h = rw (step-goes g P r p e) (go (kind (turn g p (r .machine)) (rule p)))
       where
-        go : Kind (r .machine) (turn g p (r .machine)) → Counts r (next P p r (turn g p (r .machine)))
+        go : Kind g p (r .machine) (turn g p (r .machine)) → Counts r (next P p r (turn g p (r .machine)))
         go (counted c up) = inl (up (r .tally), change-differs p h c)
-        go (passed-over c same stays) = inr (same (r .tally), stays)
+        go (passed-over c same stays idle) = inr (same (r .tally), stays)
 
   -- the moves counted and those that are left are never more than before
   pub run-paid : (r : Result) (l : List ℕ) → Named P l → Stands g P r

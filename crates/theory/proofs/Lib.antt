@@ -2,6 +2,7 @@
 pub mod Phase
 pub mod Taken
 pub mod Rules
+pub mod Idle
 pub mod Stacks
 pub mod Trail
 pub mod Lasso

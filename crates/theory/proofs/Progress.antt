@@ -5,7 +5,7 @@ use Prim.Native.Nat.{ℕ, zero, suc, _+_, _<_, _≤_}
 use mathlib.Core.Path.{_≡_, refl, subst, sym, _∙_}
 use mathlib.Core.Bool.{Bool, true, false, not, _&&_, _||_}
 use mathlib.Core.List.{List, [], _∷_}
-use mathlib.Core.Logic.{_⊎_, inl, inr, _≢_}
+use mathlib.Core.Logic.{_⊎_, inl, inr, _≢_, ⊎-elim}
 use native.Mathlib.Omega.{arith}
 use lib.Dec.{eqb}
 use lib.ListN.{length}
@@ -17,89 +17,64 @@ use Rattle.graphs.proofs.Every.{find, every-fails}
 use Rattle.graphs.proofs.Member.{elem-mem, elem-not}
 use Rattle.graphs.proofs.Once.{once-bound}
 use Rattle.graphs.proofs.Walk.{walk-far, far-join, far-walk, edge-far}
-use Rattle.moves.specs.declared.Place.{Place}
-use Rattle.moves.specs.declared.Place.the-variants.{Fresh, Outer, Inner, Waiting, Done}
-use Rattle.moves.specs.Place.{isDone}
+use Rattle.moves.specs.declared.Place.the-variants.{Fresh, Waiting, Done}
 use Rattle.moves.specs.Machine.{Machine}
-use Rattle.moves.specs.Moves.{Made, turn, othersRed}
+use Rattle.moves.specs.Moves.{turn, othersRed}
 use Rattle.moves.specs.Tally.{changes}
-use Rattle.theory.specs.Rules.{Rule}
-use Rattle.theory.specs.Rules.{by-start, by-skip, by-enter, by-leave, by-seed, by-hit, by-pass, by-join, by-back, by-paint, by-wait, by-rest}
 use Rattle.theory.specs.Stacks.{Stacked}
-use Rattle.theory.specs.Invariant.{Within, here, onward, Hunt, Dead, SeedAt, Invariant}
+use Rattle.theory.specs.Invariant.{Within, here, onward, Hunt, Dead, SeedAt, SomeCyan, SomeSeed, Invariant}
+use Rattle.theory.specs.Turns.{CanMove}
 use Rattle.theory.proofs.Rules.{obeys}
+use Rattle.theory.proofs.Idle.{Waits, Idle, still}
 use Rattle.theory.proofs.Phase.{at}
 use Rattle.theory.proofs.Stacks.{mem-to, mem-nil}
 use Rattle.theory.proofs.Trail.{trail-from}
 use Rattle.theory.proofs.Depth.{within-walk}
 use Rattle.theory.proofs.Whole.{waiting-hunt, seed-on-no-loop}
 
--- worker p, below P, waits with its seed for a state that is not red
-pub record Waits (g : Graph) (P : ℕ) (m : Machine) (p : ℕ) : Type 0 where
-  pub below : p < P
-  pub seed : ℕ
-  pub waits : m .worker p .place ≡ Waiting seed
-  pub blocked : othersRed g p m seed ≡ false
-
-pub is-done : (q : Place) → isDone q ≡ true → q ≡ Done
-is-done Fresh e = absurd (clash e refl)
-is-done Outer e = absurd (clash e refl)
-is-done (Inner z) e = absurd (clash e refl)
-is-done (Waiting z) e = absurd (clash e refl)
-is-done Done e = refl
-
--- a move that changes nothing: the worker waits, or is done
-idle : {g : Graph} {P p : ℕ} {m : Machine} → p < P → (a : Made) → Rule g p m a → changes (a .move) ≡ false
-    → Waits g P m p ⊎ (m .worker p .place ≡ Done)
-idle h _ (by-start ep) e = absurd (clash refl e)
-idle h _ (by-skip ep eo er c) e = absurd (clash refl e)
-idle h _ (by-enter ep eo er c) e = absurd (clash refl e)
-idle h _ (by-leave ep eo er c) e = absurd (clash refl e)
-idle h _ (by-seed ep eo er c) e = absurd (clash refl e)
-idle h _ (by-hit ep ei er c) e = absurd (clash refl e)
-idle h _ (by-pass ep ei er c r) e = absurd (clash refl e)
-idle h _ (by-join ep ei er c r) e = absurd (clash refl e)
-idle h _ (by-back ep ei er) e = absurd (clash refl e)
-idle h _ (by-paint ep eo c) e = absurd (clash refl e)
-idle h _ (by-wait {z} ep c) e = inl (record { below = h; seed = z; waits = ep; blocked = c })
-idle h _ (by-rest ep) e = inr ep
-
 module _ {g : Graph} (sound : Sound g) {P : ℕ} {m : Machine} (v : Invariant g P m) where
-  module _ (stuck : (q : ℕ) → q < P → Waits g P m q ⊎ (m .worker q .place ≡ Done)) where
+  -- a worker that waits has moved
+  waits-below : {p : ℕ} → Waits g m p → p < P
+  waits-below {p} w = ⊎-elim (λ h. h) (λ h. absurd (fresh (sym (w .waits) ∙ v .spare p h))) (below? p P)
+    where
+      fresh : Waiting (w .seed) ≡ Fresh → ⊥
+      fresh e = clash {b = true} refl (cc)
+
+  module _ (stuck : (q : ℕ) → q < P → Idle g m q) where
     -- a worker with a stack waits, and every state of the stack leads to its seed
-    holder : (q x : ℕ) → Mem x (m .worker q .outer) → (w : Waits g P m q) × Walk g x (w .seed)
+    holder : (q x : ℕ) → Mem x (m .worker q .outer) → (w : Waits g m q) × Walk g x (w .seed)
     holder q x n = go (below? q P)
       where
-        up : (w : Waits g P m q) → Walk g x (w .seed)
+        up : (w : Waits g m q) → Walk g x (w .seed)
         up w =
             let h = waiting-hunt sound v (w .waits) in
             trail-from g 0 (w .seed) (h .under) (subst (Stacked g 0) (h .top) (v .local q .stacks .trail)) x (mem-to x (h .top) n)
 
-        settled : Waits g P m q ⊎ (m .worker q .place ≡ Done) → (w : Waits g P m q) × Walk g x (w .seed)
+        settled : Idle g m q → (w : Waits g m q) × Walk g x (w .seed)
         settled (inl w) = (w, up w)
         settled (inr e) = absurd (mem-nil x (at (v .local q) e .0) n)
 
-        go : (q < P) ⊎ (P ≤ q) → (w : Waits g P m q) × Walk g x (w .seed)
+        go : (q < P) ⊎ (P ≤ q) → (w : Waits g m q) × Walk g x (w .seed)
         go (inl h) = settled (stuck q h)
         go (inr h) = absurd (mem-nil x (at (v .local q) (v .spare q h) .0) n)
 
     -- the worker whose seed is s waits
-    seeded : (q s : ℕ) → SeedAt (m .worker q .place) s → (w : Waits g P m q) × (w .seed ≡ s)
+    seeded : (q s : ℕ) → SeedAt (m .worker q .place) s → (w : Waits g m q) × (w .seed ≡ s)
     seeded q s k = go (below? q P)
       where
-        settled : Waits g P m q ⊎ (m .worker q .place ≡ Done) → (w : Waits g P m q) × (w .seed ≡ s)
+        settled : Idle g m q → (w : Waits g m q) × (w .seed ≡ s)
         settled (inl w) = (w, subst (λ a. SeedAt a s) (w .waits) k)
         settled (inr e) = absurd (subst (λ a. SeedAt a s) e k)
 
-        go : (q < P) ⊎ (P ≤ q) → (w : Waits g P m q) × (w .seed ≡ s)
+        go : (q < P) ⊎ (P ≤ q) → (w : Waits g m q) × (w .seed ≡ s)
         go (inl h) = settled (stuck q h)
         go (inr h) = absurd (subst (λ a. SeedAt a s) (v .spare q h) k)
 
     -- a waiting worker's seed leads to a waiting worker's seed
-    abbrev Next : (p : ℕ) → Waits g P m p → Type 0
-    Next p w = (q : ℕ) × (w′ : Waits g P m q) × Far g (w .seed) (w′ .seed)
+    abbrev Next : (p : ℕ) → Waits g m p → Type 0
+    Next p w = (q : ℕ) × (w′ : Waits g m q) × Far g (w .seed) (w′ .seed)
 
-    leads : (p : ℕ) (w : Waits g P m p) → Next p w
+    leads : (p : ℕ) (w : Waits g m p) → Next p w
     unfolding othersRed
     leads p w = finish (along a (hunt .way a in-R))
       where
@@ -138,7 +113,7 @@ module _ {g : Graph} (sound : Sound g) {P : ℕ} {m : Machine} (v : Invariant g 
         along _ here = inl (hunt .is-blue)
         along t (onward {t = y} k e r) = go (along y k)
           where
-            cyan : (m .blue t ≡ true) ⊎ ((q : ℕ) × (m .worker q .cyan t ≡ true)) → (m .blue t ≡ true) ⊎ Next p w
+            cyan : (m .blue t ≡ true) ⊎ SomeCyan m t → (m .blue t ≡ true) ⊎ Next p w
             cyan (inl b) = inl b
             cyan (inr c) =
                 let h = holder (c .0) t (v .local (c .0) .stacks .on t (c .1)) in
@@ -157,12 +132,12 @@ module _ {g : Graph} (sound : Sound g) {P : ℕ} {m : Machine} (v : Invariant g 
         finish (inr f) = f
         finish (inl b) = go (v .blue-dead a accepts b)
           where
-            go : Dead m a ⊎ ((q : ℕ) × SeedAt (m .worker q .place) a) → Next p w
+            go : Dead m a ⊎ SomeSeed m a → Next p w
             go (inl d) = absurd (clash d not-red)
             go (inr c) = let s = seeded (c .0) a (c .1) in (c .0, s .0, rw (s .1) (far (hunt .way a in-R) other))
 
     -- so nobody waits
-    chase : (k : ℕ) (l : List ℕ) → length l + k ≡ suc P → Once l → ((r : ℕ) → Mem r l → r < P) → (p : ℕ) (w : Waits g P m p)
+    chase : (k : ℕ) (l : List ℕ) → length l + k ≡ suc P → Once l → ((r : ℕ) → Mem r l → r < P) → (p : ℕ) (w : Waits g m p)
         → ((r z : ℕ) → Mem r l → m .worker r .place ≡ Waiting z → Far g z (w .seed)) → ⊥
     chase zero l e once below p w far = omega (arith, once-bound P l once below)
     chase (suc k) l e once below p w far = go (leads p w) (either (elem p l)) (λ o b q w′ f. chase k (p ∷ l) (omega arith) o b q w′ f)
@@ -171,35 +146,35 @@ module _ {g : Graph} (sound : Sound g) {P : ℕ} {m : Machine} (v : Invariant g 
         seed-is z q = let e : Waiting z ≡ Waiting (w .seed) = sym q ∙ w .waits in cc
 
         inside : (r : ℕ) → Mem r (p ∷ l) → r < P
-        inside r (inl q) = rw q (w .below)
+        inside r (inl q) = rw q (waits-below w)
         inside r (inr h) = below r h
 
-        onward-far : {q : ℕ} (w′ : Waits g P m q) → Far g (w .seed) (w′ .seed) → (r z : ℕ) → Mem r (p ∷ l) → m .worker r .place ≡ Waiting z
+        onward-far : {q : ℕ} (w′ : Waits g m q) → Far g (w .seed) (w′ .seed) → (r z : ℕ) → Mem r (p ∷ l) → m .worker r .place ≡ Waiting z
             → Far g z (w′ .seed)
         onward-far w′ f r z (inl q) at = rw (seed-is z (subst (λ i. m .worker i .place ≡ Waiting z) q at)) f
         onward-far w′ f r z (inr h) at = far-join (far r z h at) (far-walk f)
 
         go : Next p w → (elem p l ≡ true) ⊎ (elem p l ≡ false)
-            → (Once (p ∷ l) → ((r : ℕ) → Mem r (p ∷ l) → r < P) → (q : ℕ) (w′ : Waits g P m q)
+            → (Once (p ∷ l) → ((r : ℕ) → Mem r (p ∷ l) → r < P) → (q : ℕ) (w′ : Waits g m q)
             → ((r z : ℕ) → Mem r (p ∷ l) → m .worker r .place ≡ Waiting z → Far g z (w′ .seed)) → ⊥)
             → ⊥
         go n (inl on) rest = seed-on-no-loop sound v (w .waits) (far p (w .seed) (elem-mem p l on) (w .waits))
         go (q, w′, f) (inr off) rest = rest (elem-not p l off, once) inside q w′ (onward-far w′ f)
 
-    nobody-waits : (p : ℕ) → Waits g P m p → ⊥
+    nobody-waits : (p : ℕ) → Waits g m p → ⊥
     nobody-waits p w = chase (suc P) [] (omega arith) tt (λ r h. absurd h) p w (λ r z h at. absurd h)
 
-  pub progress : ((p : ℕ) × (p < P) × (changes (turn g p m .move) ≡ true)) ⊎ ((q : ℕ) → q < P → m .worker q .place ≡ Done)
+  pub progress : ((p : ℕ) × (p < P) × CanMove g m p) ⊎ ((q : ℕ) → q < P → m .worker q .place ≡ Done)
   progress = go (find P (λ p. changes (turn g p m .move)))
     where
-      go : ((p : ℕ) × (p < P) × (changes (turn g p m .move) ≡ true)) ⊎ ((p : ℕ) → p < P → changes (turn g p m .move) ≡ false)
-          → ((p : ℕ) × (p < P) × (changes (turn g p m .move) ≡ true)) ⊎ ((q : ℕ) → q < P → m .worker q .place ≡ Done)
+      go : ((p : ℕ) × (p < P) × CanMove g m p) ⊎ ((p : ℕ) → p < P → changes (turn g p m .move) ≡ false)
+          → ((p : ℕ) × (p < P) × CanMove g m p) ⊎ ((q : ℕ) → q < P → m .worker q .place ≡ Done)
       go (inl p) = inl p
-      go (inr still) = inr (λ q h. done q (stuck q h))
+      go (inr all-still) = inr (λ q h. done q (stuck q h))
         where
-          stuck : (q : ℕ) → q < P → Waits g P m q ⊎ (m .worker q .place ≡ Done)
-          stuck q h = idle h (turn g q m) (obeys g q m (v .local q)) (still q h)
+          stuck : (q : ℕ) → q < P → Idle g m q
+          stuck q h = still (turn g q m) (obeys g q m (v .local q)) (all-still q h) .1
 
-          done : (q : ℕ) → Waits g P m q ⊎ (m .worker q .place ≡ Done) → m .worker q .place ≡ Done
+          done : (q : ℕ) → Idle g m q → m .worker q .place ≡ Done
           done q (inl w) = absurd (nobody-waits stuck q w)
           done q (inr e) = e

@@ -1,12 +1,12 @@
 -- A run, turn by turn: each turn makes what the rules make of the result before it, an answer stays, "undecided" has used every turn, and
 -- wherever turns lead the answer is right.
-use Prim.Native.Nat.{ℕ, _+_, _<_}
+use Prim.Native.Nat.{ℕ, suc, _+_, _<_, _≤_}
 use mathlib.Core.Path.{_≡_, refl, sym, ap, _∙_}
 use mathlib.Core.Bool.{true, false, cond}
 use mathlib.Core.List.{List, [], _∷_, _++_}
 use mathlib.Core.Logic.{_⊎_, inl, inr}
 use native.Mathlib.Omega.{arith}
-use lib.ListN.{length}
+use lib.ListN.{length, take}
 use Rattle.graphs.specs.Graph.{Graph, Sound}
 use Rattle.graphs.specs.Lasso.{MarkedLoop}
 use Rattle.graphs.proofs.Tests.{either}
@@ -26,7 +26,7 @@ use Rattle.theory.proofs.Rules.{obeys}
 use Rattle.theory.proofs.Depth.{local-shallow}
 use Rattle.theory.proofs.Hit.{hit-lasso, hit-once}
 use Rattle.theory.proofs.Whole.{Keeps, keeps, begins, none-right}
-use Rattle.theory.proofs.Progress.{is-done}
+use Rattle.theory.proofs.Idle.{is-done}
 
 pub decided : (a : Answer) → (a ≡ undecided → ⊥) → Decided a
 decided (cycle stem loop) h = tt
@@ -102,6 +102,25 @@ module _ (g : Graph) (P : ℕ) where
       let one = ap (λ k. k .used) (step-goes r p (open-before r (p ∷ l) e)) in
       let rest = all-used (step g P r p) l e in
       omega (arith, one, rest)
+
+  -- the turns used are the first of the list, and they give the result
+  pub used-turns : (r : Result) (l : List ℕ)
+      → (k : ℕ) × (k ≤ length l) × (runFrom g P r l .used ≡ r .used + k) × (runFrom g P r (take k l) ≡ runFrom g P r l)
+  unfolding runFrom
+  used-turns r [] = (0, omega arith, omega arith, refl)
+  used-turns r (p ∷ l) = go (r .answer) refl (used-turns (step g P r p) l)
+    where
+      stays : Decided (r .answer)
+          → (k : ℕ) × (k ≤ suc (length l)) × (runFrom g P r (p ∷ l) .used ≡ r .used + k) × (runFrom g P r (take k (p ∷ l)) ≡ runFrom g P r (p ∷ l))
+      stays d = let e = run-stays r (p ∷ l) d in (0, omega arith, omega (arith, ap (λ k. k .used) e), sym e)
+
+      go : (a : Answer) → r .answer ≡ a
+          → (k : ℕ) × (k ≤ length l) × (runFrom g P (step g P r p) l .used ≡ step g P r p .used + k)
+          × (runFrom g P (step g P r p) (take k l) ≡ runFrom g P (step g P r p) l)
+          → (k : ℕ) × (k ≤ suc (length l)) × (runFrom g P r (p ∷ l) .used ≡ r .used + k) × (runFrom g P r (take k (p ∷ l)) ≡ runFrom g P r (p ∷ l))
+      go (cycle stem loop) e rest = stays (rw e tt)
+      go none e rest = stays (rw e tt)
+      go undecided e (k, le, used, same) = (suc k, omega arith, omega (arith, used, ap (λ i. i .used) (step-goes r p e)), same)
 
   module _ (sound : Sound g) (some : 0 < P) where
     -- after a move that keeps the invariant

@@ -21,35 +21,9 @@ use Rattle.theory.specs.Rules.{by-start, by-skip, by-enter, by-leave, by
 use Rattle.theory.specs.Invariant.{Invariant, Local, Dead}
 use Rattle.theory.specs.Turns.{mostMoves}
 use Rattle.theory.specs.Cost.{cell, workLeft, total}
+use Rattle.theory.proofs.Idle.{Kind, counted, passed-over, kind}
 use Rattle.theory.proofs.Cost.{work-more, start-lowers, skip-lowers, enter-lowers, leave-lowers, seed-lowers}
 use Rattle.theory.proofs.Cost.{pass-lowers, join-lowers, back-lowers, paint-lowers}
-
--- a move changes something and is counted; or it is not counted, and the machine stays as it is
-pub data Kind (m : Machine) (a : Made) : Type 0 where
-  counted : changes (a .move) ≡ true → ((t : Tally) → raised t (a .move) .moves ≡ t .moves + 1) → Kind m a
-  passed-over : changes (a .move) ≡ false → ((t : Tally) → raised t (a .move) .moves ≡ t .moves) → a .machine ≡ m → Kind m a
-
-module _ {g : Graph} {p : ℕ} {m : Machine} where
-  pub kind : (a : Made) → Rule g p m a → Kind m a
-  kind _ (by-start ep) = counted refl (λ t. refl)
-  kind _ (by-skip ep eo er ex) = counted refl (λ t. refl)
-  kind _ (by-enter ep eo er ex) = counted refl (λ t. refl)
-  kind _ (by-leave ep eo er ea) = counted refl (λ t. refl)
-  kind _ (by-seed ep eo er ea) = counted refl (λ t. refl)
-  kind _ (by-hit ep ei er cx) = counted refl (λ t. refl)
-  kind _ (by-pass ep ei er cx ex) = counted refl (λ t. refl)
-  kind _ (by-join ep ei er cx ex) = counted refl (λ t. refl)
-  kind _ (by-back ep ei er) = counted refl (λ t. refl)
-  kind _ (by-paint ep eo reds) = counted refl (λ t. refl)
-  kind _ (by-wait ep reds) = passed-over refl (λ t. refl) refl
-  kind _ (by-rest ep) = passed-over refl (λ t. refl) refl
-
-  pub still : (a : Made) → Rule g p m a → changes (a .move) ≡ false → a .machine ≡ m
-  still a r e = go (kind a r)
-    where
-      go : Kind m a → a .machine ≡ m
-      go (counted c up) = absurd (clash c e)
-      go (passed-over c same stays) = stays
 
 module _ {g : Graph} (sound : Sound g) {P : ℕ} {m : Machine} (inv : Invariant g P m) {p : ℕ} (named : p < P) where
   l : Local g (m .blue) (Dead m) p (m .worker p)
@@ -94,16 +68,16 @@ module _ {g : Graph} (sound : Sound g) {P : ℕ} {m : Machine} (inv : Invariant 
   pub paid : (a : Made) → Rule g p m a → (t : Tally) → raised t (a .move) .moves + total g P (a .machine) ≤ t .moves + total g P m
   paid a r t = go (kind a r)
     where
-      go : Kind m a → raised t (a .move) .moves + total g P (a .machine) ≤ t .moves + total g P m
+      go : Kind g p m a → raised t (a .move) .moves + total g P (a .machine) ≤ t .moves + total g P m
       go (counted c up) = omega (arith, up t, falls a r c)
-      go (passed-over c same stays) = omega (arith, same t, ap (total g P) stays)
+      go (passed-over c same stays idle) = omega (arith, same t, ap (total g P) stays)
 
   pub no-more : (a : Made) → Rule g p m a → total g P (a .machine) ≤ total g P m
   no-more a r = go (kind a r)
     where
-      go : Kind m a → total g P (a .machine) ≤ total g P m
+      go : Kind g p m a → total g P (a .machine) ≤ total g P m
       go (counted c up) = le-of-lt (falls a r c)
-      go (passed-over c same stays) = le-of-eq (ap (total g P) stays)
+      go (passed-over c same stays idle) = le-of-eq (ap (total g P) stays)
 
 -- At the start each state has both parts in full, 2d + 3 and d + 1.
 start-cell : (g : Graph) (t : ℕ) → cell g empty empty fresh t ≡ 3 * length (g .next t) + 4
