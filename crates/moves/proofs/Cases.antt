@@ -14,7 +14,8 @@ use Rattle.moves.specs.declared.Place.{Place}
 use Rattle.moves.specs.declared.Place.the-variants.{Outer, Inner, Waiting, Done}
 use Rattle.moves.specs.declared.Tally.{Tally}
 use Rattle.moves.specs.Machine.{start}
-use Rattle.moves.specs.Moves.{only, othersRed, move-1, move-2, move-3, move-4, move-5, move-6, move-7, turnAt, turn}
+use Rattle.moves.specs.Changes.{only}
+use Rattle.moves.specs.Moves.{othersRed, move-1, move-2, move-3, move-4, move-5, move-6, move-7, turnAt, turn}
 use Rattle.moves.specs.Run.{Answer, cycle, none, undecided, Result, run, runRounds}
 use Rattle.moves.specs.Run.{below, downTo, allDone, step, runFrom, upFrom, rounds}
 use Rattle.moves.specs.Room.{tab, pile, span, spans, room}

@@ -16,7 +16,8 @@ use Rattle.moves.specs.declared.Place.{Place}
 use Rattle.moves.specs.declared.Place.the-variants.{Fresh, Outer, Inner, Waiting, Done}
 use Rattle.moves.specs.declared.Move.{Move}
 use Rattle.moves.specs.Machine.{Worker, Machine}
-use Rattle.moves.specs.Moves.{Made, onFirst, remaining, put, othersRed, move-1, move-2, move-3, move-4, move-5, move-6, move-7, turnAt, turn}
+use Rattle.moves.specs.Changes.{put}
+use Rattle.moves.specs.Moves.{Made, onFirst, remaining, othersRed, move-1, move-2, move-3, move-4, move-5, move-6, move-7, turnAt, turn}
 use Rattle.moves.specs.Room.{bits, span, stretch, spans, room, stretchAt, Fits, AllFit}
 use Rattle.moves.proofs.Joined.{past, outside}
 use Rattle.moves.proofs.Tab.{bits-long}

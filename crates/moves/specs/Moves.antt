@@ -1,90 +1,23 @@
 -- The moves of 01, one definition each, in 01's order and words; and a turn, which makes the one move that the rules give worker p.
-use Prim.Native.Nat.{ℕ, suc}
-use mathlib.Core.Bool.{Bool, true, false, cond, not, _&&_, _||_}
+use Prim.Native.Nat.{ℕ}
+use mathlib.Core.Bool.{Bool, cond, not, _&&_, _||_}
 use mathlib.Core.List.{List, [], _∷_}
 use lib.Dec.{eqb}
 use lib.ListN.{drop}
-use Rattle.graphs.specs.Lists.{upd, every}
+use Rattle.graphs.specs.Lists.{every}
 use Rattle.graphs.specs.Graph.{Graph}
 use Rattle.moves.specs.declared.Place.{Place}
 use Rattle.moves.specs.declared.Place.the-variants.{Fresh, Outer, Inner, Waiting, Done}
 use Rattle.moves.specs.declared.Move.{Move}
 use Rattle.moves.specs.declared.Move.the-variants.{Start, Skip, Enter, Leave, Seed, Hit, Pass, Join, Back, Paint, Wait, Rest}
-use Rattle.moves.specs.Place.{started, left, seeded, backed, painted}
+use Rattle.moves.specs.Place.{left, painted}
 use Rattle.moves.specs.Machine.{Worker, Machine, empty}
+use Rattle.moves.specs.Changes.{isEmpty, starts, takes, enters, pops, seeds, joins, backs, put, putBlue, putRed}
 
 -- what a turn makes: its move, and the machine after it
 pub record Made : Type 0 where
   pub move : Move
   pub machine : Machine
-
-abbrev pub isEmpty : List ℕ → Bool
-isEmpty [] = true
-isEmpty (x ∷ l) = false
-
--- only s
-unfoldable pub only : ℕ → ℕ → Bool
-only s x = eqb x s
-
--- What a move does to its worker w. A state's count of taken successors goes back to 0 when it leaves a stack, and when it becomes the seed.
-
--- the initial state becomes cyan and the outer stack's only entry
-abbrev pub starts : Worker → Worker
-starts w = record { place = started Fresh; cyan = upd (w .cyan) 0 true; R = w .R; outer = 0 ∷ []; inner = w .inner; taken = w .taken }
-
--- one more successor of s is taken
-abbrev pub takes : Worker → ℕ → Worker
-takes w s = record { place = w .place; cyan = w .cyan; R = w .R; outer = w .outer; inner = w .inner; taken = upd (w .taken) s (suc (w .taken s)) }
-
--- x is taken from s, becomes cyan and goes on the stack
-abbrev pub enters : Worker → ℕ → ℕ → Worker
-enters w s x =
-    record {
-      place = w .place;
-      cyan = upd (w .cyan) x true;
-      R = w .R;
-      outer = x ∷ w .outer;
-      inner = w .inner;
-      taken = upd (w .taken) s (suc (w .taken s));
-    }
-
--- s loses cyan and leaves the outer stack, which is u then; place and R after it are given
-abbrev pub pops : Worker → ℕ → List ℕ → Place → (ℕ → Bool) → Worker
-pops w s u q k = record { place = q; cyan = upd (w .cyan) s false; R = k; outer = u; inner = w .inner; taken = upd (w .taken) s 0 }
-
--- s becomes the seed, R holds only it, and it starts the inner stack
-abbrev pub seeds : Worker → ℕ → Worker
-seeds w s = record { place = seeded Outer s; cyan = w .cyan; R = only s; outer = w .outer; inner = s ∷ []; taken = upd (w .taken) s 0 }
-
--- x is taken from s, and joins R and the inner stack
-abbrev pub joins : Worker → ℕ → ℕ → Worker
-joins w s x =
-    record {
-      place = w .place;
-      cyan = w .cyan;
-      R = upd (w .R) x true;
-      outer = w .outer;
-      inner = x ∷ w .inner;
-      taken = upd (w .taken) s (suc (w .taken s));
-    }
-
--- under the seed z, s leaves the inner stack, which is u then
-abbrev pub backs : Worker → ℕ → ℕ → List ℕ → Worker
-backs w z s u = record { place = backed (Inner z) (isEmpty u); cyan = w .cyan; R = w .R; outer = w .outer; inner = u; taken = upd (w .taken) s 0 }
-
--- Worker p is w now. With that nothing shared changes, s becomes blue, or all of p's R becomes red.
-
-abbrev pub put : Machine → ℕ → Worker → Machine
-put m p w = record { blue = m .blue; red = m .red; worker = upd (m .worker) p w }
-
-abbrev pub putBlue : Machine → ℕ → Worker → ℕ → Machine
-putBlue m p w s = record { blue = upd (m .blue) s true; red = m .red; worker = upd (m .worker) p w }
-
-abbrev pub dyed : Machine → ℕ → ℕ → Bool
-dyed m p x = m .red x || m .worker p .R x
-
-abbrev pub putRed : Machine → ℕ → Worker → Machine
-putRed m p w = record { blue = m .blue; red = dyed m p; worker = upd (m .worker) p w }
 
 -- the first of a list and the rest of it; or that there is none
 abbrev pub onFirst : List ℕ → Made → (ℕ → List ℕ → Made) → Made

@@ -19,7 +19,7 @@ use Rattle.graphs.proofs.Sum.{sum-le, sum-falls}
 use Rattle.moves.specs.declared.Place.the-variants.{Fresh, Outer, Inner, Waiting, Done}
 use Rattle.moves.specs.Place.{left, painted}
 use Rattle.moves.specs.Machine.{Worker, empty}
-use Rattle.moves.specs.Moves.{isEmpty, only, starts, takes, enters, pops, seeds, joins, backs}
+use Rattle.moves.specs.Changes.{isEmpty, only, starts, takes, enters, pops, seeds, joins, backs}
 use Rattle.theory.specs.Stacks.{Trail}
 use Rattle.theory.specs.Invariant.{Local, Hunt}
 use Rattle.theory.proofs.Phase.{at, deep-trail}

@@ -12,7 +12,7 @@ use Rattle.graphs.proofs.Tests.{clash, same?}
 use Rattle.graphs.proofs.Change.{upd-same, upd-other, upd-cases, upd-up}
 use Rattle.moves.specs.declared.Place.the-variants.{Fresh, Outer, Inner, Waiting, Done}
 use Rattle.moves.specs.Machine.{Worker}
-use Rattle.moves.specs.Moves.{isEmpty, only, starts, takes, enters, pops, seeds, joins, backs}
+use Rattle.moves.specs.Changes.{isEmpty, only, starts, takes, enters, pops, seeds, joins, backs}
 use Rattle.theory.specs.Stacks.{Stacked, Trail}
 use Rattle.theory.specs.Invariant.{Taken, Looked, Fine, Within, here, onward, Calm, Climb, Hunt, Deep, Phase, Local}
 use Rattle.theory.proofs.Phase.{at, deep-trail}

@@ -16,7 +16,8 @@ use Rattle.graphs.proofs.Change.{upd-same, upd-ind}
 use Rattle.moves.specs.declared.Place.the-variants.{Done}
 use Rattle.moves.specs.Place.{isDone}
 use Rattle.moves.specs.Machine.{Machine, start}
-use Rattle.moves.specs.Moves.{Made, takes, turn}
+use Rattle.moves.specs.Changes.{takes}
+use Rattle.moves.specs.Moves.{Made, turn}
 use Rattle.moves.specs.Run.{Answer, cycle, none, undecided, allDone, quiet, answerTo, Result, begin, next, unlessAnswered, step, runFrom, run}
 use Rattle.theory.specs.Rules.{Hits}
 use Rattle.theory.specs.Stacks.{Shallow}

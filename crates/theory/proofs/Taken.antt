@@ -10,7 +10,7 @@ use Rattle.graphs.proofs.Tests.{same?}
 use Rattle.graphs.proofs.Change.{upd-same, upd-other}
 use Rattle.graphs.proofs.Member.{take-one, drop-mem, all-taken}
 use Rattle.moves.specs.Machine.{Worker}
-use Rattle.moves.specs.Moves.{takes}
+use Rattle.moves.specs.Changes.{takes}
 use Rattle.theory.specs.Invariant.{Taken}
 
 module _ (g : Graph) (p : ℕ) (w : Worker) where

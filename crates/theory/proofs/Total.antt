@@ -14,7 +14,8 @@ use Rattle.graphs.proofs.Change.{upd-same, upd-ind, upd-up}
 use Rattle.graphs.proofs.Sum.{sum-lt, sum-same}
 use Rattle.moves.specs.declared.Tally.{Tally}
 use Rattle.moves.specs.Machine.{Worker, Machine, empty, fresh, start}
-use Rattle.moves.specs.Moves.{Made, put, putBlue, dyed}
+use Rattle.moves.specs.Changes.{put, putBlue, dyed}
+use Rattle.moves.specs.Moves.{Made}
 use Rattle.moves.specs.Tally.{raised, changes}
 use Rattle.theory.specs.Rules.{Rule}
 use Rattle.theory.specs.Rules.{by-start, by-skip, by-enter, by-leave, by-seed, by-hit, by-pass, by-join, by-back, by-paint, by-wait, by-rest}

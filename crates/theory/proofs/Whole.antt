@@ -16,7 +16,8 @@ use Rattle.graphs.specs.Lasso.{MarkedLoop}
 use Rattle.moves.specs.declared.Place.the-variants.{Fresh, Outer, Inner, Waiting, Done}
 use Rattle.moves.specs.Place.{left, painted}
 use Rattle.moves.specs.Machine.{Worker, Machine, start, empty}
-use Rattle.moves.specs.Moves.{Made, isEmpty, pops, seeds, backs, put, putBlue, putRed, dyed, remaining, othersRed}
+use Rattle.moves.specs.Changes.{isEmpty, pops, seeds, backs, put, putBlue, putRed, dyed}
+use Rattle.moves.specs.Moves.{Made, remaining, othersRed}
 use Rattle.moves.specs.Run.{answerTo, quiet}
 use Rattle.theory.specs.Rules.{Rule, Hits}
 use Rattle.theory.specs.Rules.{by-start, by-skip, by-enter, by-leave, by-seed, by-hit, by-pass, by-join, by-back, by-paint, by-wait, by-rest}

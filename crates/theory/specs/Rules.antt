@@ -10,7 +10,8 @@ use Rattle.moves.specs.declared.Place.the-variants.{Fresh, Outer, Inner, Waitin
 use Rattle.moves.specs.declared.Move.the-variants.{Start, Skip, Enter, Leave, Seed, Hit, Pass, Join, Back, Paint, Wait, Rest}
 use Rattle.moves.specs.Place.{left, painted}
 use Rattle.moves.specs.Machine.{Machine, empty}
-use Rattle.moves.specs.Moves.{Made, isEmpty, starts, takes, enters, pops, seeds, joins, backs, put, putBlue, putRed, remaining, othersRed}
+use Rattle.moves.specs.Changes.{isEmpty, starts, takes, enters, pops, seeds, joins, backs, put, putBlue, putRed}
+use Rattle.moves.specs.Moves.{Made, remaining, othersRed}
 
 -- worker p's place is q, the stack is s on u, and x is the next successor of s, or none is left
 abbrev pub At : ℕ → Machine → Place → Type 0
