@@ -13,7 +13,7 @@ use Rattle.moves.specs.Machine.{Machine, empty}
 use Rattle.moves.specs.Changes.{isEmpty, starts, takes, enters, pops, seeds, joins, backs, put, putBlue, putRed}
 use Rattle.moves.specs.Moves.{Made, remaining, othersRed}
 
--- worker p's place is q, the stack is s on u, and x is the next successor of s, or none is left
+-- worker p's place is q; its outer stack, or its inner one, is s on u
 abbrev pub At : ℕ → Machine → Place → Type 0
 At p m q = m .worker p .place ≡ q
 
