@@ -1,7 +1,7 @@
 -- Laws of tests: a test that holds is written `b ≡ true`, and one that fails `b ≡ false`.
 use Prim.Native.Nat.{ℕ, _<_, _≤_}
 use mathlib.Core.Path.{_≡_, refl, sym, _∙_}
-use mathlib.Core.Bool.{Bool, true, false, not, _&&_, _||_}
+use mathlib.Core.Bool.{Bool, true, false, cond, not, _&&_, _||_}
 use mathlib.Core.Logic.{_⊎_, inl, inr, _≢_}
 use lib.Dec.{eqb, ltb}
 use borrow.Author.Tests.{eqb-true, eqb-false, ltb-true, ltb-false, not-true, not-false}
@@ -47,6 +47,11 @@ if-not {r} e t = sym e ∙ not-true r t
 
 pub if-so : {r b : Bool} → r ≡ b → not r ≡ false → b ≡ true
 if-so {r} e t = sym e ∙ not-false r t
+
+-- what holds of both arms, each under its test, holds of the choice
+pub cond-ind {ℓ κ} : {A : Type ℓ} (Q : A → Type κ) (b : Bool) {x y : A} → (b ≡ true → Q x) → (b ≡ false → Q y) → Q (cond b x y)
+cond-ind Q true so else-so = so refl
+cond-ind Q false so else-so = else-so refl
 
 -- two numbers are the same or not
 pub same? : (i j : ℕ) → (i ≡ j) ⊎ (i ≢ j)

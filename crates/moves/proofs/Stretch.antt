@@ -2,7 +2,7 @@
 -- room at a worker's stretch; `move-own-stretch` says of every turn that no other word of the stretches changes.
 use Prim.Native.Nat.{ℕ, zero, suc, _+_, _-_, _*_, _<_, _≤_}
 use mathlib.Core.Path.{_≡_, refl, ap, _∙_}
-use mathlib.Core.Bool.{Bool, true, false, cond, _||_}
+use mathlib.Core.Bool.{Bool, _||_}
 use mathlib.Core.List.{List, [], _∷_, _++_, append-assoc}
 use mathlib.Core.Logic.{_⊎_, inl, inr, _≢_}
 use lib.ListN.{length, getD}
@@ -10,7 +10,7 @@ use native.Mathlib.Nat.{suc-mul, zero-add, sub-zero}
 use native.Mathlib.Omega.{arith}
 use Rattle.graphs.specs.Lists.{upd}
 use Rattle.graphs.specs.Graph.{Graph}
-use Rattle.graphs.proofs.Tests.{same?}
+use Rattle.graphs.proofs.Tests.{same?, cond-ind}
 use Rattle.graphs.proofs.Change.{upd-same, upd-other}
 use Rattle.moves.specs.declared.Place.{Place}
 use Rattle.moves.specs.declared.Place.the-variants.{Fresh, Outer, Inner, Waiting, Done}
@@ -107,15 +107,11 @@ module _ (g : Graph) (p : ℕ) (m : Machine) where
   pub record Stays (a : Made) : Type 0 where
     pub same : (q : ℕ) → q ≢ p → a .machine .worker q ≡ m .worker q
 
-  -- what holds of both arms of a choice holds of the choice
+  -- what holds of both arms holds of the choice
   first-stays : {x : Made} {f : ℕ → List ℕ → Made} (l : List ℕ) → Stays x → ((s : ℕ) (u : List ℕ) → Stays (f s u))
       → Stays (onFirst l x f)
   first-stays [] a b = a
   first-stays (s ∷ u) a b = b s u
-
-  cond-stays : {x y : Made} (c : Bool) → Stays x → Stays y → Stays (cond c x y)
-  cond-stays true a b = a
-  cond-stays false a b = b
 
   put-stays : (a : Move) (b r : ℕ → Bool) (w : Worker)
       → Stays (record { move = a; machine = record { blue = b; red = r; worker = upd (m .worker) p w } })
@@ -123,20 +119,21 @@ module _ (g : Graph) (p : ℕ) (m : Machine) where
 
   stays-2 : (s x : ℕ) → Stays (move-2 g p m s x)
   unfolding move-2
-  stays-2 s x = cond-stays (m .worker p .cyan x || m .blue x) (put-stays _ _ _ _) (put-stays _ _ _ _)
+  stays-2 s x = cond-ind Stays (m .worker p .cyan x || m .blue x) (λ e. put-stays _ _ _ _) (λ e. put-stays _ _ _ _)
 
   stays-3 : (s : ℕ) (u : List ℕ) → Stays (move-3 g p m s u)
   unfolding move-3
-  stays-3 s u = cond-stays (g .accepting s) (put-stays _ _ _ _) (put-stays _ _ _ _)
+  stays-3 s u = cond-ind Stays (g .accepting s) (λ e. put-stays _ _ _ _) (λ e. put-stays _ _ _ _)
 
   stays-4 : (s x : ℕ) → Stays (move-4 g p m s x)
   unfolding move-4
   stays-4 s x =
-      cond-stays (m .worker p .cyan x) (put-stays _ _ _ _) (cond-stays (m .worker p .R x || m .red x) (put-stays _ _ _ _) (put-stays _ _ _ _))
+      cond-ind Stays (m .worker p .cyan x) (λ e. put-stays _ _ _ _)
+      (λ e. cond-ind Stays (m .worker p .R x || m .red x) (λ f. put-stays _ _ _ _) (λ f. put-stays _ _ _ _))
 
   stays-6 : (z : ℕ) (u : List ℕ) → Stays (move-6 g p m z u)
   unfolding move-6
-  stays-6 z u = cond-stays (othersRed g p m z) (put-stays _ _ _ _) (record { same = λ q ne. refl })
+  stays-6 z u = cond-ind Stays (othersRed g p m z) (λ e. put-stays _ _ _ _) (λ e. record { same = λ q ne. refl })
 
   stays-7 : Stays (move-7 g p m)
   unfolding move-7

@@ -17,3 +17,4 @@ pub mod Total
 pub mod Ends
 pub mod Demands
 pub mod Rooms
+pub mod Cases
