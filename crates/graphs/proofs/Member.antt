@@ -1,9 +1,9 @@
--- Laws of membership, in joined lists and in the part of a list that was taken.
+-- Laws of membership: in joined lists, in a list turned round, in the part of a list that was taken, and in a list known by an equation.
 use Prim.Native.Nat.{ℕ, zero, suc, _<_}
-use mathlib.Core.Path.{_≡_, refl, sym, ap}
+use mathlib.Core.Path.{_≡_, refl, sym, ap, subst}
 use mathlib.Core.Bool.{true, false}
-use mathlib.Core.List.{List, [], _∷_, _++_}
-use mathlib.Core.Logic.{_⊎_, inl, inr}
+use mathlib.Core.List.{List, [], _∷_, _++_, reverse, reverse-cons, reverse-reverse}
+use mathlib.Core.Logic.{_⊎_, inl, inr, _≢_}
 use lib.Dec.{eqb}
 use lib.ListN.{length, getD, take, drop, take-append-drop}
 use native.Mathlib.Omega.{arith}
@@ -27,6 +27,13 @@ mem-cases x (y ∷ s) t (inr h) = go (mem-cases x s t h)
     go : Mem x s ⊎ Mem x t → Mem x (y ∷ s) ⊎ Mem x t
     go (inl m) = inl (inr m)
     go (inr m) = inr m
+
+pub mem-reverse : (x : ℕ) (l : List ℕ) → Mem x l → Mem x (reverse l)
+mem-reverse x (y ∷ l) (inl e) = rw (reverse-cons y l) (mem-right x (reverse l) (y ∷ []) (inl e))
+mem-reverse x (y ∷ l) (inr m) = rw (reverse-cons y l) (mem-left x (reverse l) (y ∷ []) (mem-reverse x l m))
+
+pub reverse-mem : (x : ℕ) (l : List ℕ) → Mem x (reverse l) → Mem x l
+reverse-mem x l m = rw (reverse-reverse l) at (mem-reverse x (reverse l) m)
 
 pub mem-take : (x k : ℕ) (l : List ℕ) → Mem x (take k l) → Mem x l
 mem-take x k l h = rw (take-append-drop k l) at (mem-left x (take k l) (drop k l) h)
@@ -59,6 +66,29 @@ take-one (suc k) (z ∷ l) y r e x (inr h) = go (take-one k l y r e x h)
     go : Mem x (take k l) ⊎ (x ≡ y) → Mem x (z ∷ take k l) ⊎ (x ≡ y)
     go (inl m) = inl (inr m)
     go (inr q) = inr q
+
+-- membership in a list that is known by an equation
+pub mem-to : {l k : List ℕ} (x : ℕ) → l ≡ k → Mem x l → Mem x k
+mem-to x e h = subst (Mem x) e h
+
+pub mem-of : {l k : List ℕ} (x : ℕ) → l ≡ k → Mem x k → Mem x l
+mem-of x e h = subst (Mem x) (sym e) h
+
+pub mem-top : {l k : List ℕ} {x : ℕ} → l ≡ x ∷ k → Mem x l
+mem-top {x} e = mem-of x e (inl refl)
+
+pub mem-under : {l k : List ℕ} {x : ℕ} (y : ℕ) → l ≡ x ∷ k → Mem y k → Mem y l
+mem-under y e h = mem-of y e (inr h)
+
+pub mem-rest : {l k : List ℕ} {s : ℕ} (x : ℕ) → l ≡ s ∷ k → x ≢ s → Mem x l → Mem x k
+mem-rest {k} {s} x e ne h = go (mem-to x e h)
+  where
+    go : Mem x (s ∷ k) → Mem x k
+    go (inl q) = absurd (ne q)
+    go (inr m) = m
+
+pub mem-nil : {l : List ℕ} (x : ℕ) → l ≡ [] → Mem x l → ⊥
+mem-nil x e h = mem-to x e h
 
 -- the test of membership
 pub elem-mem : (x : ℕ) (l : List ℕ) → elem x l ≡ true → Mem x l

@@ -1,8 +1,8 @@
--- Laws of lists in which nothing stands twice: joined lists, the test `repeats`, and the pigeonhole lemma.
+-- Laws of lists in which nothing stands twice: the test `repeats`, joined lists, a list turned round, and the pigeonhole lemma.
 use Prim.Native.Nat.{ℕ, _≤_, _<_, zero-le, suc-le-suc}
-use mathlib.Core.Path.{_≡_, refl}
+use mathlib.Core.Path.{_≡_, refl, subst}
 use mathlib.Core.Bool.{Bool, true, false, _||_, cond}
-use mathlib.Core.List.{List, [], _∷_, _++_}
+use mathlib.Core.List.{List, [], _∷_, _++_, reverse, reverse-cons}
 use mathlib.Core.Logic.{_⊎_, inl, inr}
 use lib.ListN.{length}
 use native.Mathlib.Omega.{arith}
@@ -12,7 +12,7 @@ use borrow.Author.Tests.{eq-eqb}
 use Rattle.graphs.specs.Lists.{Mem, Once, elem, repeats, sum}
 use Rattle.graphs.proofs.Tests.{or-left, or-right}
 use Rattle.graphs.proofs.Sum.{sum-lt, sum-all}
-use Rattle.graphs.proofs.Member.{not-elem, elem-not, mem-cases}
+use Rattle.graphs.proofs.Member.{not-elem, elem-not, mem-cases, reverse-mem}
 
 pub once-repeats : (l : List ℕ) → Once l → repeats l ≡ false
 unfolding repeats
@@ -32,6 +32,14 @@ once-join (x ∷ s) t o p apart = (λ m. go (mem-cases x s t m), once-join s t (
     go : Mem x s ⊎ Mem x t → ⊥
     go (inl m) = o .0 m
     go (inr m) = apart x (inl refl) m
+
+pub once-reverse : (l : List ℕ) → Once l → Once (reverse l)
+once-reverse [] o = tt
+once-reverse (x ∷ l) o = rw (reverse-cons x l) (once-join (reverse l) (x ∷ []) (once-reverse l (o .1)) (λ m. m, tt) apart)
+  where
+    apart : (y : ℕ) → Mem y (reverse l) → Mem y (x ∷ []) → ⊥
+    apart y m (inl e) = o .0 (subst (λ i. Mem i l) e (reverse-mem y l m))
+    apart y m (inr k) = k
 
 -- 1 for a member, 0 for any other number: a list without repeats counts each of its members once
 here : List ℕ → ℕ → ℕ

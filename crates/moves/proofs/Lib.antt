@@ -1,4 +1,4 @@
--- The cases of 01; and the laws of the room, in the order in which they build on each other.
+-- The cases of 01; that the contracts settle the calls; and the laws of the room, in the order in which they build on each other.
 pub mod Cases
 pub mod Settled
 pub mod Joined

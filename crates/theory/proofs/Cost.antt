@@ -14,7 +14,7 @@ use Rattle.graphs.specs.Lists.{upd, elem, Mem}
 use Rattle.graphs.specs.Graph.{Graph, Sound}
 use Rattle.graphs.proofs.Tests.{same?, clash, not-both, or-left, or-right}
 use Rattle.graphs.proofs.Change.{upd-same, upd-other}
-use Rattle.graphs.proofs.Member.{mem-elem, not-elem}
+use Rattle.graphs.proofs.Member.{mem-elem, not-elem, mem-top}
 use Rattle.graphs.proofs.Sum.{sum-le, sum-falls}
 use Rattle.moves.specs.declared.Place.the-variants.{Fresh, Outer, Inner, Waiting, Done}
 use Rattle.moves.specs.Place.{left, painted}
@@ -23,7 +23,6 @@ use Rattle.moves.specs.Changes.{isEmpty, only, starts, takes, enters, pops, see
 use Rattle.theory.specs.Stacks.{Trail}
 use Rattle.theory.specs.Invariant.{Local, Hunt}
 use Rattle.theory.proofs.Phase.{at, deep-trail}
-use Rattle.theory.proofs.Stacks.{mem-top}
 use Rattle.theory.proofs.Trail.{trail-bottom}
 use Rattle.theory.proofs.Depth.{outer-inside, inner-inside}
 use Rattle.theory.specs.Cost.{isFresh, searchesAt, waitsAt, outerPart, joinPart, cell, workLeft}

@@ -52,6 +52,7 @@ module _ {g : Graph} {p : ℕ} {m : Machine} where
       go (counted c up) = absurd (clash c e)
       go (passed-over c same stays idle) = (stays, idle)
 
+-- a place that passes the test is `Done`
 pub is-done : (q : Place) → isDone q ≡ true → q ≡ Done
 is-done Fresh e = absurd (clash e refl)
 is-done Outer e = absurd (clash e refl)

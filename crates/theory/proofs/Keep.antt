@@ -10,6 +10,7 @@ use Rattle.graphs.specs.Lists.{upd, Mem, Once}
 use Rattle.graphs.specs.Graph.{Graph, Edge, Sound}
 use Rattle.graphs.proofs.Tests.{clash, same?}
 use Rattle.graphs.proofs.Change.{upd-same, upd-other, upd-cases, upd-up}
+use Rattle.graphs.proofs.Member.{mem-top, mem-under, mem-rest, mem-nil}
 use Rattle.moves.specs.declared.Place.the-variants.{Fresh, Outer, Inner, Waiting, Done}
 use Rattle.moves.specs.Machine.{Worker}
 use Rattle.moves.specs.Changes.{isEmpty, only, starts, takes, enters, pops, seeds, joins, backs}
@@ -17,7 +18,7 @@ use Rattle.theory.specs.Stacks.{Stacked, Trail}
 use Rattle.theory.specs.Invariant.{Taken, Looked, Fine, Within, here, onward, Calm, Climb, Hunt, Deep, Phase, Local}
 use Rattle.theory.proofs.Phase.{at, deep-trail}
 use Rattle.theory.proofs.Taken.{took-one, set-back, none-taken, all-of, next-edge}
-use Rattle.theory.proofs.Stacks.{mem-top, mem-under, mem-rest, mem-nil, stacks-start, stacks-take, stacks-push, stacks-pop, stacks-inner}
+use Rattle.theory.proofs.Stacks.{stacks-start, stacks-take, stacks-push, stacks-pop, stacks-inner}
 
 module _ {g : Graph} (sound : Sound g) {b : ℕ → Bool} {d : ℕ → Type 0} {p : ℕ} {w : Worker} (l : Local g b d p w) where
   -- move 1

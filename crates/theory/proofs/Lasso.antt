@@ -3,7 +3,7 @@
 use Prim.Native.Nat.{ℕ}
 use mathlib.Core.Path.{_≡_, refl, sym, ap, subst, _∙_}
 use mathlib.Core.Bool.{Bool, true, false, cond}
-use mathlib.Core.List.{List, [], _∷_, _++_, reverse, reverseAux, append-assoc, reverseAux-eq, reverse-cons, reverse-append, reverse-reverse}
+use mathlib.Core.List.{List, [], _∷_, _++_, reverse, reverseAux, append-assoc, reverseAux-eq, reverse-append}
 use mathlib.Core.Logic.{_⊎_, inl, inr, _≢_}
 use lib.Dec.{eqb}
 use lib.ListN.{drop}
@@ -12,25 +12,10 @@ use Rattle.graphs.specs.Lists.{Mem, Once}
 use Rattle.graphs.specs.Graph.{Graph, Edge}
 use Rattle.graphs.specs.Lasso.{Linked, final, Lasso}
 use Rattle.graphs.proofs.Tests.{either, clash}
-use Rattle.graphs.proofs.Member.{mem-left, mem-right}
-use Rattle.graphs.proofs.Once.{once-join}
+use Rattle.graphs.proofs.Member.{mem-left, mem-reverse, reverse-mem}
+use Rattle.graphs.proofs.Once.{once-join, once-reverse}
 use Rattle.moves.specs.Run.{below, downTo}
 use Rattle.theory.specs.Stacks.{Trail}
-
-pub mem-reverse : (x : ℕ) (l : List ℕ) → Mem x l → Mem x (reverse l)
-mem-reverse x (y ∷ l) (inl e) = rw (reverse-cons y l) (mem-right x (reverse l) (y ∷ []) (inl e))
-mem-reverse x (y ∷ l) (inr m) = rw (reverse-cons y l) (mem-left x (reverse l) (y ∷ []) (mem-reverse x l m))
-
-pub reverse-mem : (x : ℕ) (l : List ℕ) → Mem x (reverse l) → Mem x l
-reverse-mem x l m = rw (reverse-reverse l) at (mem-reverse x (reverse l) m)
-
-pub once-reverse : (l : List ℕ) → Once l → Once (reverse l)
-once-reverse [] o = tt
-once-reverse (x ∷ l) o = rw (reverse-cons x l) (once-join (reverse l) (x ∷ []) (once-reverse l (o .1)) (λ m. m, tt) apart)
-  where
-    apart : (y : ℕ) → Mem y (reverse l) → Mem y (x ∷ []) → ⊥
-    apart y m (inl e) = o .0 (subst (λ i. Mem i l) e (reverse-mem y l m))
-    apart y m (inr k) = k
 
 -- a stack is cut below c; what is above the cut keeps the top, and ends with c
 pub downTo-below : (c : ℕ) (l : List ℕ) → downTo c l ++ below c l ≡ l

@@ -1,4 +1,4 @@
--- The theorems, in the order of proof; the demands stand last.
+-- The theorems, in the order of proof, up to the demands; then what follows for the room, and the demands at work on 01's graph.
 pub mod Phase
 pub mod Taken
 pub mod Rules

@@ -1,11 +1,11 @@
 -- The workers never all stand and wait: some worker can make a move that changes something, or all are done. If none could, each waiting worker's
 -- seed would lead by a step or more to the seed of a waiting worker, and after more such steps than there are workers some seed would come up
 -- twice and lie on a loop, which the seed of a waiting worker does not.
-use Prim.Native.Nat.{ℕ, zero, suc, _+_, _<_, _≤_}
+use Prim.Native.Nat.{ℕ, zero, suc, _+_, _<_}
 use mathlib.Core.Path.{_≡_, refl, subst, sym, _∙_}
 use mathlib.Core.Bool.{Bool, true, false, not, _&&_, _||_}
 use mathlib.Core.List.{List, [], _∷_}
-use mathlib.Core.Logic.{_⊎_, inl, inr, _≢_, ⊎-elim}
+use mathlib.Core.Logic.{_⊎_, inl, inr, _≢_, ⊎-elim, ⊎-map}
 use native.Mathlib.Omega.{arith}
 use lib.Dec.{eqb}
 use lib.ListN.{length}
@@ -14,7 +14,7 @@ use Rattle.graphs.specs.Lists.{Mem, Once, elem}
 use Rattle.graphs.specs.Graph.{Graph, Walk, Far, Sound}
 use Rattle.graphs.proofs.Tests.{clash, either, below?, or-left, or-right, and-cases}
 use Rattle.graphs.proofs.Every.{find, every-fails}
-use Rattle.graphs.proofs.Member.{elem-mem, elem-not}
+use Rattle.graphs.proofs.Member.{elem-mem, elem-not, mem-to, mem-nil}
 use Rattle.graphs.proofs.Once.{once-bound}
 use Rattle.graphs.proofs.Walk.{walk-far, far-join, far-walk, edge-far}
 use Rattle.moves.specs.declared.Place.the-variants.{Fresh, Waiting, Done}
@@ -27,7 +27,6 @@ use Rattle.theory.specs.Turns.{CanMove}
 use Rattle.theory.proofs.Rules.{obeys}
 use Rattle.theory.proofs.Idle.{Waits, Idle, still}
 use Rattle.theory.proofs.Phase.{at}
-use Rattle.theory.proofs.Stacks.{mem-to, mem-nil}
 use Rattle.theory.proofs.Trail.{trail-from}
 use Rattle.theory.proofs.Depth.{within-walk}
 use Rattle.theory.proofs.Whole.{waiting-hunt, seed-on-no-loop}
@@ -41,34 +40,31 @@ module _ {g : Graph} (sound : Sound g) {P : ℕ} {m : Machine} (v : Invariant g 
       fresh e = clash {b = true} refl (cc)
 
   module _ (stuck : (q : ℕ) → q < P → Idle g m q) where
+    standing : (q : ℕ) → Idle g m q ⊎ (m .worker q .place ≡ Fresh)
+    standing q = ⊎-map (stuck q) (v .spare q) (below? q P)
+
     -- a worker with a stack waits, and every state of the stack leads to its seed
     holder : (q x : ℕ) → Mem x (m .worker q .outer) → (w : Waits g m q) × Walk g x (w .seed)
-    holder q x n = go (below? q P)
+    holder q x n = go (standing q)
       where
         up : (w : Waits g m q) → Walk g x (w .seed)
         up w =
             let h = waiting-hunt sound v (w .waits) in
             trail-from g 0 (w .seed) (h .under) (subst (Stacked g 0) (h .top) (v .local q .stacks .trail)) x (mem-to x (h .top) n)
 
-        settled : Idle g m q → (w : Waits g m q) × Walk g x (w .seed)
-        settled (inl w) = (w, up w)
-        settled (inr e) = absurd (mem-nil x (at (v .local q) e .0) n)
-
-        go : (q < P) ⊎ (P ≤ q) → (w : Waits g m q) × Walk g x (w .seed)
-        go (inl h) = settled (stuck q h)
-        go (inr h) = absurd (mem-nil x (at (v .local q) (v .spare q h) .0) n)
+        go : Idle g m q ⊎ (m .worker q .place ≡ Fresh) → (w : Waits g m q) × Walk g x (w .seed)
+        go (inl (inl w)) = (w, up w)
+        go (inl (inr e)) = absurd (mem-nil x (at (v .local q) e .0) n)
+        go (inr e) = absurd (mem-nil x (at (v .local q) e .0) n)
 
     -- the worker whose seed is s waits
     seeded : (q s : ℕ) → SeedAt (m .worker q .place) s → (w : Waits g m q) × (w .seed ≡ s)
-    seeded q s k = go (below? q P)
+    seeded q s k = go (standing q)
       where
-        settled : Idle g m q → (w : Waits g m q) × (w .seed ≡ s)
-        settled (inl w) = (w, subst (λ a. SeedAt a s) (w .waits) k)
-        settled (inr e) = absurd (subst (λ a. SeedAt a s) e k)
-
-        go : (q < P) ⊎ (P ≤ q) → (w : Waits g m q) × (w .seed ≡ s)
-        go (inl h) = settled (stuck q h)
-        go (inr h) = absurd (subst (λ a. SeedAt a s) (v .spare q h) k)
+        go : Idle g m q ⊎ (m .worker q .place ≡ Fresh) → (w : Waits g m q) × (w .seed ≡ s)
+        go (inl (inl w)) = (w, subst (λ a. SeedAt a s) (w .waits) k)
+        go (inl (inr e)) = absurd (subst (λ a. SeedAt a s) e k)
+        go (inr e) = absurd (subst (λ a. SeedAt a s) e k)
 
     -- a waiting worker's seed leads to a waiting worker's seed
     abbrev Next : (p : ℕ) → Waits g m p → Type 0

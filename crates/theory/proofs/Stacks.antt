@@ -8,31 +8,9 @@ use mathlib.Core.Logic.{_⊎_, inl, inr, _≢_}
 use Rattle.graphs.specs.Lists.{upd, Mem, Once}
 use Rattle.graphs.specs.Graph.{Graph, Edge}
 use Rattle.graphs.proofs.Tests.{clash, same?}
+use Rattle.graphs.proofs.Member.{mem-top, mem-under, mem-rest, mem-nil}
 use Rattle.graphs.proofs.Change.{upd-same, upd-other, upd-cases, upd-up}
 use Rattle.theory.specs.Stacks.{Stacked, Stacks}
-
--- membership in a list that is known by an equation
-pub mem-to : {l k : List ℕ} (x : ℕ) → l ≡ k → Mem x l → Mem x k
-mem-to x e h = subst (Mem x) e h
-
-pub mem-of : {l k : List ℕ} (x : ℕ) → l ≡ k → Mem x k → Mem x l
-mem-of x e h = subst (Mem x) (sym e) h
-
-pub mem-top : {l k : List ℕ} {x : ℕ} → l ≡ x ∷ k → Mem x l
-mem-top {x} e = mem-of x e (inl refl)
-
-pub mem-under : {l k : List ℕ} {x : ℕ} (y : ℕ) → l ≡ x ∷ k → Mem y k → Mem y l
-mem-under y e h = mem-of y e (inr h)
-
-pub mem-rest : {l k : List ℕ} {s : ℕ} (x : ℕ) → l ≡ s ∷ k → x ≢ s → Mem x l → Mem x k
-mem-rest {k} {s} x e ne h = go (mem-to x e h)
-  where
-    go : Mem x (s ∷ k) → Mem x k
-    go (inl q) = absurd (ne q)
-    go (inr m) = m
-
-pub mem-nil : {l : List ℕ} (x : ℕ) → l ≡ [] → Mem x l → ⊥
-mem-nil x e h = mem-to x e h
 
 module _ {g : Graph} {c : ℕ → Bool} {o i : List ℕ} {k : ℕ → ℕ} where
   -- only the inner stack and the counts change

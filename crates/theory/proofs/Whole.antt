@@ -13,6 +13,7 @@ use Rattle.graphs.proofs.Tests.{clash, same?, below?, or-cases, or-inl, or-inr,
 use Rattle.graphs.proofs.Change.{upd-same, upd-other, upd-cases, upd-up, upd-ind, upd-some}
 use Rattle.graphs.proofs.Every.{every-at}
 use Rattle.graphs.specs.Lasso.{MarkedLoop}
+use Rattle.graphs.proofs.Member.{mem-top, mem-under, mem-nil}
 use Rattle.moves.specs.declared.Place.the-variants.{Fresh, Outer, Inner, Waiting, Done}
 use Rattle.moves.specs.Place.{left, painted}
 use Rattle.moves.specs.Machine.{Worker, Machine, start, empty}
@@ -22,7 +23,6 @@ use Rattle.moves.specs.Run.{answerTo, quiet}
 use Rattle.theory.specs.Rules.{Rule, Hits}
 use Rattle.theory.specs.Rules.{by-start, by-skip, by-enter, by-leave, by-seed, by-hit, by-pass, by-join, by-back, by-paint, by-wait, by-rest}
 use Rattle.theory.specs.Invariant.{Looked, Fine, Hunt, Climb, SomeCyan, SomeSeed, Local, Dead, SeedAt, Invariant}
-use Rattle.theory.proofs.Stacks.{mem-top, mem-under, mem-nil}
 use Rattle.theory.proofs.Depth.{R-inside}
 use Rattle.theory.proofs.Phase.{at, local-more}
 use Rattle.theory.proofs.Taken.{all-of}

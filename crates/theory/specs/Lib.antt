@@ -1,4 +1,5 @@
--- In the order of reading: the moves as a relation, what concerns the stacks, the invariant, and the moves that are left.
+-- In the order of reading: the moves as a relation, what concerns the stacks, the invariant, turn lists and answers in the demands' words, and the
+-- moves that are left.
 pub mod Rules
 pub mod Stacks
 pub mod Invariant
