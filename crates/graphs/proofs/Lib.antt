@@ -4,6 +4,8 @@ pub mod Change
 pub mod Member
 pub mod Every
 pub mod Sum
+pub mod Tab
+pub mod Same
 pub mod Once
 pub mod Walk
 pub mod Lasso

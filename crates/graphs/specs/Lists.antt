@@ -1,5 +1,6 @@
 -- The words on numbers and lists in which every definition of the project is written: a function changed at one place, a test of all numbers
--- below n, a sum over them, membership, and lists in which nothing stands twice. Each computes. Their laws are in proofs/, a file for each word.
+-- below n, a sum over them, their values as a list, membership, tests of a list's members, and lists in which nothing stands twice. Each
+-- computes. Their laws are in proofs/, a file for each word.
 use Prim.Native.Nat.{ℕ, zero, suc, _+_}
 use mathlib.Core.Path.{_≡_}
 use mathlib.Core.Bool.{Bool, true, false, cond, _&&_, _||_}
@@ -20,6 +21,27 @@ every (suc n) f = f n && every n f
 unfoldable pub sum : ℕ → (ℕ → ℕ) → ℕ
 sum zero f = 0
 sum (suc n) f = f n + sum n f
+
+-- f i, f (i + 1), .., n of them
+unfoldable pub tab {ℓ} : {A : Type ℓ} → ℕ → ℕ → (ℕ → A) → List A
+tab i zero f = []
+tab i (suc n) f = f i ∷ tab (suc i) n f
+
+-- the test holds of every member of the list; and of some member
+unfoldable pub all {ℓ} : {A : Type ℓ} → (A → Bool) → List A → Bool
+all f [] = true
+all f (x ∷ l) = f x && all f l
+
+unfoldable pub any {ℓ} : {A : Type ℓ} → (A → Bool) → List A → Bool
+any f [] = false
+any f (x ∷ l) = f x || any f l
+
+-- two lists are the same, word by word
+unfoldable pub same : List ℕ → List ℕ → Bool
+same [] [] = true
+same [] (y ∷ m) = false
+same (x ∷ l) [] = false
+same (x ∷ l) (y ∷ m) = eqb x y && same l m
 
 -- x stands in the list: as a statement, and as a test
 abbrev pub Mem : ℕ → List ℕ → Type 0

@@ -18,7 +18,8 @@ use Rattle.moves.specs.Changes.{only}
 use Rattle.moves.specs.Moves.{othersRed, move-1, move-2, move-3, move-4, move-5, move-6, move-7, turnAt, turn}
 use Rattle.moves.specs.Run.{Answer, cycle, none, undecided, Result, run, runRounds}
 use Rattle.moves.specs.Run.{below, downTo, allDone, step, runFrom, upFrom, rounds}
-use Rattle.moves.specs.Room.{tab, pile, span, spans, room}
+use Rattle.graphs.specs.Lists.{tab}
+use Rattle.moves.specs.Room.{pile, span, spans, room}
 
 -- what a result tells: the answer, the turns used, the tally, and the place of each worker
 pub record Told : Type 0 where

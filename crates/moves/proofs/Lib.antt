@@ -2,7 +2,7 @@
 pub mod Cases
 pub mod Settled
 pub mod Joined
-pub mod Tab
+pub mod Bits
 pub mod Pile
 pub mod Room
 pub mod Stretch

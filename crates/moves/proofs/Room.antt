@@ -13,9 +13,11 @@ use Rattle.graphs.proofs.Tests.{same?}
 use Rattle.moves.specs.declared.Place.{Place}
 use Rattle.moves.specs.declared.Place.the-variants.{Fresh, Outer, Inner, Waiting, Done}
 use Rattle.moves.specs.Machine.{Worker, Machine}
-use Rattle.moves.specs.Room.{tab, bits, pile, kindWord, seedWord, span, stretch, spans, room, roomSize, Fits, AllFit, SameWorker, SameBelow}
+use Rattle.moves.specs.Room.{bits, pile, kindWord, seedWord, span, stretch, spans, room, roomSize, Fits, AllFit, SameWorker, SameBelow}
 use Rattle.moves.proofs.Joined.{split}
-use Rattle.moves.proofs.Tab.{tab-long, tab-ext, tab-same, bits-long, bits-ext, bits-same}
+use Rattle.graphs.specs.Lists.{tab}
+use Rattle.graphs.proofs.Tab.{tab-long, tab-ext, tab-same}
+use Rattle.moves.proofs.Bits.{bits-long, bits-ext, bits-same}
 use Rattle.moves.proofs.Pile.{pile-long, pile-same}
 
 -- the place with the words k and z

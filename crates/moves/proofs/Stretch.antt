@@ -20,7 +20,7 @@ use Rattle.moves.specs.Changes.{put}
 use Rattle.moves.specs.Moves.{Made, onFirst, remaining, othersRed, move-1, move-2, move-3, move-4, move-5, move-6, move-7, turnAt, turn}
 use Rattle.moves.specs.Room.{bits, span, stretch, spans, room, stretchAt, Fits, AllFit}
 use Rattle.moves.proofs.Joined.{past, outside}
-use Rattle.moves.proofs.Tab.{bits-long}
+use Rattle.moves.proofs.Bits.{bits-long}
 use Rattle.moves.proofs.Room.{span-long, spans-long, spans-ext}
 
 module _ (n : ℕ) where

@@ -5,14 +5,10 @@ use mathlib.Core.Path.{_≡_}
 use mathlib.Core.Bool.{Bool, true, false}
 use mathlib.Core.List.{List, [], _∷_, _++_, reverse}
 use lib.ListN.{length, replicate}
+use Rattle.graphs.specs.Lists.{tab}
 use Rattle.moves.specs.declared.Place.{Place}
 use Rattle.moves.specs.declared.Place.the-variants.{Fresh, Outer, Inner, Waiting, Done}
 use Rattle.moves.specs.Machine.{Worker, Machine}
-
--- the words f i, f (i + 1), .., n of them
-unfoldable pub tab : ℕ → ℕ → (ℕ → ℕ) → List ℕ
-tab i zero f = []
-tab i (suc n) f = f i ∷ tab (suc i) n f
 
 abbrev pub bit : Bool → ℕ
 bit true = 1

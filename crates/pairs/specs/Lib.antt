@@ -1,0 +1,2 @@
+-- Numbered pairs of words, and chains through them.
+pub mod Pairs
