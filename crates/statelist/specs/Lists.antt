@@ -40,14 +40,17 @@ targetsOf (suc n) transitions = targetsOf n transitions ++ targetsFrom n transit
 unfoldable pub offsetsOf : ℕ → List Transition → List ℕ
 offsetsOf n transitions = tab 0 (suc n) (λ s. length (targetsOf s transitions))
 
--- 01: "as many states as the least of 4,096, offset words less one (0 if there are none), flag words and half the place words rounded down; and as
--- many transitions as the lesser of 16,384 and target words"
+-- 01: "The rooms hold as many states as the least of 4,096, offset words less one (0 if there are none), flag words and half the place words rounded
+-- down; and as many transitions as the lesser of 16,384 and target words."
+abbrev pub statesHeld : (offsets flags places : ℕ) → ℕ
+statesHeld offsets flags places = min most-states (min (offsets - 1) (min flags (places / 2)))
+
+abbrev pub transitionsHeld : (targets : ℕ) → ℕ
+transitionsHeld targets = min most-transitions targets
+
 unfoldable pub roomsOf : (offsets targets flags places : ℕ) → Rooms
 roomsOf offsets targets flags places =
-    record {
-      for-states = min most-states (min (offsets - 1) (min flags (places / 2)));
-      for-transitions = min most-transitions targets;
-    }
+    record { for-states = statesHeld offsets flags places; for-transitions = transitionsHeld targets }
 
 -- what a reader is told: the numbers of states and transitions, or 01's number of the refusal and its line
 pub data Told : Type 0 where

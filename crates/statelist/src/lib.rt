@@ -1,4 +1,6 @@
 // Reading state-list text.
+mod rooms;
+
 pub enum Reading {
     Graph { states: usize, transitions: usize },
     TooLong,
@@ -9,16 +11,4 @@ pub enum Reading {
     NoStateRoom { line: usize },
     NoTransitionRoom { line: usize },
     NoState,
-}
-
-pub enum Went {
-    On { at: usize, count: usize },
-    Stop(Reading),
-}
-
-pub fn one(w: Went) -> Reading {
-    let Went::Stop(a) = w else {
-        return Reading::NoState;
-    };
-    a
 }

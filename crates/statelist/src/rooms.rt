@@ -1,0 +1,68 @@
+// The lent lists as rooms: how many states and transitions they hold, and all their words set to 0.
+ghost use mathlib.Core.Path.{_≡_};
+ghost use mathlib.Core.List.{List};
+ghost use lib.ListN.{length, replicate};
+ghost use Prim.Native.Nat.{min, _-_, _/_};
+ghost use Rattle.statelist.specs.Lists.{statesHeld, transitionsHeld, zeros};
+
+fn least(a: usize, b: usize) -> usize
+    ensures { λ r. ⌜ r ≡ min a b ⌝ }
+{
+    if a <= b {
+        return a;
+    }
+    b
+}
+
+fn less_one(a: usize) -> usize
+    ensures { λ r. ⌜ r ≡ a - 1 ⌝ }
+{
+    if a == 0 {
+        return 0;
+    }
+    a - 1
+}
+
+pub fn states_held(offsets: usize, flags: usize, places: usize) -> usize
+    ensures { λ r. ⌜ r ≡ statesHeld offsets flags places ⌝ }
+{
+    least(4096, least(less_one(offsets), least(flags, places / 2)))
+}
+
+pub fn transitions_held(targets: usize) -> usize
+    ensures { λ r. ⌜ r ≡ transitionsHeld targets ⌝ }
+{
+    least(16384, targets)
+}
+
+fn clear(words: &mut [u16])
+    ensures { λ _. ⌜ now (words .exit) ≡ zeros (length (now (words .entry))) ⌝ }
+{
+    let mut i = 0;
+    while i < words.len() {
+        words[i] = 0;
+        i += 1;
+    }
+}
+
+fn clear_places(words: &mut [u32])
+    ensures { λ _. ⌜ now (words .exit) ≡ zeros (length (now (words .entry))) ⌝ }
+{
+    let mut i = 0;
+    while i < words.len() {
+        words[i] = 0;
+        i += 1;
+    }
+}
+
+pub fn clear_all(offsets: &mut [u16], targets: &mut [u16], flags: &mut [u16], places: &mut [u32])
+    ensures { λ _. ⌜ (now (offsets .exit) ≡ zeros (length (now (offsets .entry))))
+        × (now (targets .exit) ≡ zeros (length (now (targets .entry))))
+        × (now (flags .exit) ≡ zeros (length (now (flags .entry))))
+        × (now (places .exit) ≡ zeros (length (now (places .entry)))) ⌝ }
+{
+    clear(offsets);
+    clear(targets);
+    clear(flags);
+    clear_places(places);
+}
