@@ -1,14 +1,16 @@
--- Laws of `tab`, the values of a function as a list: their number, the value at a place, one more value, one store for one change, and that equal
--- lists come from equal functions and give them.
+-- Laws of `tab`, the values of a function as a list: their number, the value at a place, one more value, one store for one change, that equal
+-- lists come from equal functions and give them, and whether some value passes a test.
 use Prim.Native.Nat.{ℕ, zero, suc, _+_, _<_}
 use mathlib.Core.Path.{_≡_, refl, sym, ap, _∙_}
+use mathlib.Core.Bool.{Bool, true, false}
 use mathlib.Core.List.{List, [], _∷_, _++_}
 use mathlib.Core.Logic.{_≢_}
 use lib.ListN.{length, getD, set, length-set}
 use lib.Seq.{ext-getD, getD-set-same, getD-set-other}
 use native.Mathlib.Nat.{add-zero, zero-add, suc-add, add-suc}
 use native.Mathlib.Omega.{arith}
-use Rattle.graphs.specs.Lists.{tab, upd}
+use Rattle.graphs.specs.Lists.{tab, upd, any}
+use Rattle.graphs.proofs.Tests.{or-inl, or-inr}
 use Rattle.graphs.proofs.Change.{upd-ind}
 
 module _ {ℓ} {A : Type ℓ} where
@@ -37,6 +39,20 @@ module _ {ℓ} {A : Type ℓ} where
       let rest = ext-from (suc i) n f h (λ s k. let q : suc i + s ≡ i + suc s = omega arith in rw q (e (suc s) (omega arith))) in
       cc
 
+  none-from : (i n : ℕ) (g : A → Bool) (h : ℕ → A) → ((s : ℕ) → s < n → g (h (i + s)) ≡ false) → any g (tab i n h) ≡ false
+  unfolding tab any
+  none-from i zero g h e = refl
+  none-from i (suc n) g h e =
+      let here : g (h i) ≡ false = rw (add-zero i) at (e 0 (omega arith)) in
+      rw here (none-from (suc i) n g h (λ s k. let q : suc i + s ≡ i + suc s = omega arith in rw q (e (suc s) (omega arith))))
+
+  some-from : (i n : ℕ) (g : A → Bool) (h : ℕ → A) (s : ℕ) → s < n → g (h (i + s)) ≡ true → any g (tab i n h) ≡ true
+  unfolding tab any
+  some-from i zero g h s k e = absurd (omega arith)
+  some-from i (suc n) g h zero k e = or-inl (g (h i)) _ (rw (add-zero i) at e)
+  some-from i (suc n) g h (suc s) k e =
+      let q : suc i + s ≡ i + suc s = omega arith in or-inr (g (h i)) _ (some-from (suc i) n g h s (omega arith) (rw q e))
+
   module _ (n : ℕ) where
     pub tab-word : (f : ℕ → A) (s : ℕ) (d : A) → s < n → getD (tab 0 n f) s d ≡ f s
     tab-word f s d h = tab-at 0 n f s d h ∙ ap f (zero-add s)
@@ -63,3 +79,10 @@ module _ {ℓ} {A : Type ℓ} where
 
         there : (i : ℕ) → i ≢ s → i < n → f i ≡ getD (set (tab 0 n f) s v) i v
         there i ne k = sym (getD-set-other (tab 0 n f) s i v v ne ∙ tab-word f i v k)
+
+    -- whether some value passes a test
+    pub any-tab-none : (g : A → Bool) (h : ℕ → A) → ((i : ℕ) → i < n → g (h i) ≡ false) → any g (tab 0 n h) ≡ false
+    any-tab-none g h e = none-from 0 n g h (λ s k. rw (zero-add s) (e s k))
+
+    pub any-tab-some : (g : A → Bool) (h : ℕ → A) (i : ℕ) → i < n → g (h i) ≡ true → any g (tab 0 n h) ≡ true
+    any-tab-some g h i k e = some-from 0 n g h i k (rw (zero-add i) e)

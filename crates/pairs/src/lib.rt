@@ -1,4 +1,10 @@
 // Numbered pairs of words in lent lists: looking a pair up, and adding one, through chains of pairs of one bucket.
+mod words;
+
+use words::bucket;
+use words::is_pair;
+use words::narrow;
+use words::wide;
 ghost use mathlib.Core.Path.{_≡_};
 ghost use mathlib.Core.List.{List};
 ghost use Prim.Native.Nat.{_+_, _≤_, _<_};
@@ -11,4 +17,52 @@ pub const BUCKETS: usize = 16384;
 pub enum Found {
     At(usize),
     Nothing,
+}
+
+// The last number below n whose pair is a, b.
+pub fn find(
+    first: &[usize],
+    second: &[usize],
+    head: &[u16],
+    next: &[u16],
+    n: usize,
+    a: usize,
+    b: usize,
+) -> Found
+    requires { ⌜ Chain (now first) (now second) (now head) (now next) n ⌝ }
+    ensures { λ r. ⌜ r ≡ found (isPair (now (first .entry)) (now (second .entry)) a b) n ⌝ }
+{
+    let h = bucket(a, b);
+    let mut j = wide(head[h]);
+    while 0 < j {
+        let i = j - 1;
+        if is_pair(first, second, i, a, b) {
+            return Found::At(i);
+        }
+        j = wide(next[i]);
+    }
+    Found::Nothing
+}
+
+// The pair a, b becomes number n, at the front of its chain.
+pub fn insert(
+    first: &mut [usize],
+    second: &mut [usize],
+    head: &mut [u16],
+    next: &mut [u16],
+    n: usize,
+    a: usize,
+    b: usize,
+)
+    requires { ⌜ (length (now head) ≡ buckets) × (n < length (now first)) × (n < length (now second)) × (n < length (now next)) × (n < 65535) ⌝ }
+    ensures { λ _. ⌜ (now (first .exit) ≡ set (now (first .entry)) n a)
+        × (now (second .exit) ≡ set (now (second .entry)) n b)
+        × (now (head .exit) ≡ set (now (head .entry)) (bucketOf a b) (n + 1))
+        × (now (next .exit) ≡ set (now (next .entry)) n (getD (now (head .entry)) (bucketOf a b) 0)) ⌝ }
+{
+    let h = bucket(a, b);
+    first[n] = a;
+    second[n] = b;
+    next[n] = head[h];
+    head[h] = narrow(n + 1);
 }

@@ -1,2 +1,13 @@
+-- Laws of what a text means and of the four lists, then of the loops that read it.
+pub mod Pieces
+pub mod Targets
+pub mod Good
+pub mod Meaning
+pub mod Filled
+pub mod Labels
+pub mod Settled
 pub mod Zeros
+pub mod Here
+pub mod Index
+pub mod Declared
 pub mod Cases

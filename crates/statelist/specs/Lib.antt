@@ -1,3 +1,6 @@
--- State-list text, in the order of reading: what a text means, and the four lists and the answer that a reading gives.
+-- State-list text, in the order of reading: what a text means, the four lists and the answer that a reading gives, and the labels in them. `Loops`
+-- is for the private functions.
 pub mod Text
 pub mod Lists
+pub mod Labels
+pub mod Loops

@@ -1,5 +1,6 @@
 // Reading state-list text.
 mod rooms;
+mod went;
 
 pub enum Reading {
     Graph { states: usize, transitions: usize },

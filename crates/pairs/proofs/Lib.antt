@@ -1,0 +1,3 @@
+-- Laws of the definitions in specs/: the last number that passes a test, and chains.
+pub mod Last
+pub mod Chain

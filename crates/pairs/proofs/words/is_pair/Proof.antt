@@ -1,0 +1,31 @@
+-- `is_pair` meets its contract.
+use borrow.Author.Needs.{needs}
+use borrow.Author.Tests.{eq-eqb, ne-eqb}
+use Rattle.pairs.specs.Pairs.{isPair}
+use Rattle.pairs.proofs.words.is_pair.Statement.{statement}
+use Rattle.pairs.proofs.words.is_pair.Tie as tie
+
+mul-if1 : tie.Need-mul-if1
+mul-if1 c = search needs
+
+shared-slice-read-if1 : tie.Need-shared-slice-read-if1
+shared-slice-read-if1 c = search needs
+
+returns : tie.Need-returns
+unfolding isPair
+returns c = rw (ne-eqb _ _ (c .if1 .taken))
+
+mul-result : tie.Need-mul-result
+mul-result c = search needs
+
+shared-slice-read-result : tie.Need-shared-slice-read-result
+shared-slice-read-result c = search needs
+
+returns-2 : tie.Need-returns-2
+unfolding isPair
+returns-2 c = rw (eq-eqb _ _ (c .before .if1 .left))
+
+pub is-pair-spec : {M : Type 1} → statement M
+is-pair-spec =
+    tie.close
+    (tie.spec mul-if1 shared-slice-read-if1 returns mul-result shared-slice-read-result returns-2)

@@ -1,0 +1,75 @@
+-- What the private loops of src/ ask and promise. No public contract cites this page. What was read so far stands in the lent lists and in the
+-- text, and what is left of the reading is said by the page `Text`.
+use Prim.Native.Nat.{ℕ, suc, _+_, _*_, _<_, _≤_}
+use mathlib.Core.Path.{_≡_}
+use mathlib.Core.Bool.{true}
+use mathlib.Core.List.{List, []}
+use mathlib.Core.Logic.{_≢_}
+use lib.ListN.{length, getD, drop}
+use Rattle.graphs.specs.Lists.{tab}
+use Rattle.lines.specs.Line.{pieces, isLabel}
+use Rattle.lines.specs.Found.{firstWord, secondWord}
+use Rattle.pairs.specs.Pairs.{Chain}
+use Rattle.statelist.specs.Text.{State, Transition, Rooms, Seen, Meaning, reads, refused, readLines}
+use Rattle.statelist.specs.Lists.{Told, graph, refusal, told, targetsFrom}
+use Rattle.statelist.specs.Labels.{labelAt}
+use Rattle.statelist.specs.declared.Reading.{Reading}
+use Rattle.statelist.specs.declared.went.Went.{Went}
+use Rattle.statelist.specs.declared.went.Went.the-variants.{On, Stop}
+
+-- the states that stand in the lists of flags and places, and the transitions in two lists of numbers
+unfoldable pub stateAt : (text flags places : List ℕ) → ℕ → State
+stateAt text flags places i = record { label = labelAt text places i; start = getD places (2 * i) 0; flag = getD flags i 0 }
+
+unfoldable pub statesIn : (text flags places : List ℕ) → ℕ → List State
+statesIn text flags places n = tab 0 n (stateAt text flags places)
+
+unfoldable pub transitionAt : (from to : List ℕ) → ℕ → Transition
+transitionAt from to i = record { from = getD from i 0; to = getD to i 0 }
+
+unfoldable pub transitionsIn : (from to : List ℕ) → ℕ → List Transition
+transitionsIn from to e = tab 0 e (transitionAt from to)
+
+-- what the text means from a place on, once these states and transitions were read, a line each
+unfoldable pub from-here : Rooms → List ℕ → ℕ → List State → List Transition → Meaning
+from-here rooms text at states transitions =
+    readLines rooms (pieces (drop at text))
+    (record { line = suc (length states + length transitions); at = at; states = states; transitions = transitions })
+
+-- the labels of the first n states are labels, all different, and can be looked up by their two words
+pub record Index (text places first second head next : List ℕ) (n : ℕ) : Type 0 where
+  pub chain : Chain first second head next n
+  pub labels : (i : ℕ) → i < n → isLabel (labelAt text places i) ≡ true
+  pub firsts : (i : ℕ) → i < n → getD first i 0 ≡ firstWord (labelAt text places i)
+  pub seconds : (i : ℕ) → i < n → getD second i 0 ≡ secondWord (labelAt text places i)
+  pub differ : (i j : ℕ) → i < n → j < n → labelAt text places i ≡ labelAt text places j → i ≡ j
+
+-- the words from n on are 0
+abbrev pub Blank : List ℕ → ℕ → Type 0
+Blank l n = (i : ℕ) → n ≤ i → getD l i 0 ≡ 0
+
+-- the reading is refused, and that is what the text means
+pub record Refused (r : Reading) (means : Meaning) : Type 0 where
+  pub number : ℕ
+  pub line : ℕ
+  pub tells : told r ≡ refusal number line
+  pub is : means ≡ refused number line
+
+-- rooms that hold so many states, and t transitions
+abbrev pub roomFor : ℕ → ℕ → Rooms
+roomFor held t = record { for-states = held; for-transitions = t }
+
+-- n states were read up to a place of the text, whatever the room for transitions
+pub record Declared (text : List ℕ) (held : ℕ) (flags places first second head next : List ℕ) (at n : ℕ) : Type 0 where
+  pub same : (t : ℕ) → from-here (roomFor held t) text at (statesIn text flags places n) [] ≡ from-here (roomFor held t) text 0 [] []
+  pub index : Index text places first second head next n
+  pub few : n ≤ held
+  pub in-text : at ≤ length text
+  pub flags-blank : Blank flags n
+  pub places-blank : Blank places (2 * n)
+
+-- what reading the S lines gives: the line that it went to is none of them
+abbrev pub StatesRead : (text : List ℕ) (held : ℕ) (flags places first second head next : List ℕ) → Went → Type 0
+StatesRead text held flags places first second head next (On at n) =
+    Declared text held flags places first second head next at n × (getD text at 0 ≢ 83)
+StatesRead text held flags places first second head next (Stop r) = (t : ℕ) → Refused r (from-here (roomFor held t) text 0 [] [])
