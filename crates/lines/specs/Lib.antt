@@ -2,3 +2,4 @@
 pub mod Bytes
 pub mod Line
 pub mod Found
+pub mod Scan

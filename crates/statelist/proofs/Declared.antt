@@ -19,6 +19,8 @@ use Rattle.lines.specs.Found.{firstWord, secondWord, labelOf, firstLine, ended,
 use Rattle.pairs.specs.declared.Found.{Found}
 use Rattle.pairs.specs.declared.Found.the-variants.{At, Nothing}
 use Rattle.pairs.specs.Pairs.{isPair, found, bucketOf, Chain}
+use Rattle.lines.proofs.Pieces.{ended-inside}
+use Rattle.lines.proofs.Records.{state-label, state-place}
 use Rattle.statelist.specs.declared.Reading.{Reading}
 use Rattle.statelist.specs.declared.Reading.the-variants.{NoForm, DeclaredTwice, NoStateRoom}
 use Rattle.statelist.specs.Text.{State, declared, refused}
@@ -50,95 +52,83 @@ declared-none text held f p first second head next c =
       places-blank = blank-zeros p (2 * 0);
     }
 
-module _
-  (pieces-ended : (left : List ℕ) → ended left ≡ true → pieces left ≡ firstLine left ∷ pieces (drop (suc (length (firstLine left))) left))
-  (pieces-rest : (left : List ℕ) → ended left ≡ false → pieces left ≡ left ∷ [])
-  (pieces-some : (left : List ℕ) → (p : List ℕ) × (ps : List (List ℕ)) × (pieces left ≡ p ∷ ps))
-  (letter-state : (left : List ℕ) → getD left 0 0 ≢ 83 → isState (firstLine left) ≡ false)
-  (letter-transition : (left : List ℕ) → getD left 0 0 ≢ 84 → isTransition (firstLine left) ≡ false)
-  (words-differ : (l m : List ℕ) → isLabel l ≡ true → isLabel m ≡ true → firstWord l ≡ firstWord m → secondWord l ≡ secondWord m → l ≡ m)
-  (state-label : (line : List ℕ) → isState line ≡ true → isLabel (field 1 line) ≡ true)
-  (state-place : (left : List ℕ) → ended left ≡ true → isState (firstLine left) ≡ true → take (length (field 1 (firstLine left))) (drop 2 left) ≡ field 1 (firstLine left))
-  (ended-inside : (left : List ℕ) → ended left ≡ true → suc (length (firstLine left)) ≤ length left)
-  where
+module _ (text : List ℕ) (held : ℕ) (flags places first second head next : List ℕ) (at n : ℕ)
+    (d : Declared text held flags places first second head next at n) where
+  abbrev states : List State
+  states = statesIn text flags places n
 
-  module _ (text : List ℕ) (held : ℕ) (flags places first second head next : List ℕ) (at n : ℕ)
-      (d : Declared text held flags places first second head next at n) where
-    abbrev states : List State
-    states = statesIn text flags places n
+  number-is : suc (length states + 0) ≡ n + 1
+  number-is = let k = states-long text flags places n in omega arith
 
-    number-is : suc (length states + 0) ≡ n + 1
-    number-is = let k = states-long text flags places n in omega arith
+  refuse : (r : Reading) (t number : ℕ) → told r ≡ refusal number (n + 1) → from-here (roomFor held t) text at states [] ≡ refused number (suc (length states + 0))
+      → Refused r (from-here (roomFor held t) text 0 [] [])
+  refuse r t number tells e =
+      record { number = number; line = n + 1; tells = tells; is = sym (d .same t) ∙ e ∙ ap (refused number) number-is }
 
-    refuse : (r : Reading) (t number : ℕ) → told r ≡ refusal number (n + 1) → from-here (roomFor held t) text at states [] ≡ refused number (suc (length states + 0))
-        → Refused r (from-here (roomFor held t) text 0 [] [])
-    refuse r t number tells e =
-        record { number = number; line = n + 1; tells = tells; is = sym (d .same t) ∙ e ∙ ap (refused number) number-is }
+  pub stop-bad : at < length text → getD text at 0 ≡ 83 → stateFound at (drop at text) ≡ NoState → (t : ℕ)
+      → Refused (NoForm (n + 1)) (from-here (roomFor held t) text 0 [] [])
+  stop-bad h letter e t =
+      refuse (NoForm (n + 1)) t 2 refl (state-bad (roomFor held t) text at states h letter e)
 
-    pub stop-bad : at < length text → getD text at 0 ≡ 83 → stateFound at (drop at text) ≡ NoState → (t : ℕ)
-        → Refused (NoForm (n + 1)) (from-here (roomFor held t) text 0 [] [])
-    stop-bad h letter e t =
-        refuse (NoForm (n + 1)) t 2 refl (state-bad pieces-ended pieces-rest pieces-some letter-state letter-transition (roomFor held t) text at states h letter e)
+  module _ (l : Label) (flag after : ℕ) (here : StateHere (drop at text) at l flag after) where
+    abbrev label : List ℕ
+    label = field 1 (firstLine (drop at text))
 
-    module _ (l : Label) (flag after : ℕ) (here : StateHere pieces-ended pieces-rest pieces-some letter-state letter-transition (drop at text) at l flag after) where
-      abbrev label : List ℕ
-      label = field 1 (firstLine (drop at text))
+    is-label : isLabel label ≡ true
+    is-label = state-label _ (here .is)
 
-      is-label : isLabel label ≡ true
-      is-label = state-label _ (here .is)
+    pub stop-twice : (i : ℕ) → found (isPair first second (l .first) (l .second)) n ≡ At i → (t : ℕ)
+        → Refused (DeclaredTwice (n + 1)) (from-here (roomFor held t) text 0 [] [])
+    unfolding labelOf
+    stop-twice i e t =
+        let known = label-known text flags places first second head next n (d .index) label is-label i (rw (here .label-is) at e) in
+        refuse (DeclaredTwice (n + 1)) t 3 refl
+        (state-twice (roomFor held t) text at states l flag after here known)
 
-      pub stop-twice : (i : ℕ) → found (isPair first second (l .first) (l .second)) n ≡ At i → (t : ℕ)
-          → Refused (DeclaredTwice (n + 1)) (from-here (roomFor held t) text 0 [] [])
+    module _ (none : found (isPair first second (l .first) (l .second)) n ≡ Nothing) where
+      none′ : found (isPair first second (firstWord label) (secondWord label)) n ≡ Nothing
       unfolding labelOf
-      stop-twice i e t =
-          let known = label-known words-differ text flags places first second head next n (d .index) label is-label i (rw (here .label-is) at e) in
-          refuse (DeclaredTwice (n + 1)) t 3 refl
-          (state-twice pieces-ended pieces-rest pieces-some letter-state letter-transition (roomFor held t) text at states l flag after here known)
+      none′ = rw (here .label-is) at none
 
-      module _ (none : found (isPair first second (l .first) (l .second)) n ≡ Nothing) where
-        none′ : found (isPair first second (firstWord label) (secondWord label)) n ≡ Nothing
-        unfolding labelOf
-        none′ = rw (here .label-is) at none
+      unknown : declared label states ≡ false
+      unknown = label-unknown text flags places first second head next n (d .index) label is-label none′
 
-        unknown : declared label states ≡ false
-        unknown = label-unknown words-differ text flags places first second head next n (d .index) label is-label none′
+      pub stop-full : held ≤ n → (t : ℕ) → Refused (NoStateRoom (n + 1)) (from-here (roomFor held t) text 0 [] [])
+      stop-full h t =
+          refuse (NoStateRoom (n + 1)) t 6 refl
+          (state-full (roomFor held t) text at states l flag after here unknown
+          (rw (states-long text flags places n) h))
 
-        pub stop-full : held ≤ n → (t : ℕ) → Refused (NoStateRoom (n + 1)) (from-here (roomFor held t) text 0 [] [])
-        stop-full h t =
-            refuse (NoStateRoom (n + 1)) t 6 refl
-            (state-full pieces-ended pieces-rest pieces-some letter-state letter-transition (roomFor held t) text at states l flag after here unknown
-            (rw (states-long text flags places n) h))
+      pub declared-more : n < held → held ≤ length flags → 2 * held ≤ length places → held ≤ length first → held ≤ length second → held ≤ length next
+          → Declared text held (set flags n flag) (set (set places (2 * n) (at + 2)) (2 * n + 1) (l .len)) (set first n (l .first)) (set second n (l .second))
+            (set head (bucketOf (l .first) (l .second)) (n + 1)) (set next n (getD head (bucketOf (l .first) (l .second)) 0)) after (n + 1)
+      unfolding labelOf
+      declared-more h in-flags in-places in-first in-second in-next =
+          rw (here .label-is, here .flag-is)
+          (record {
+            same = λ t.
+              rw (states-more text flags places n (at + 2) (length label) (flagOf line) room (omega arith), stands)
+              (sym
+              (state-more (roomFor held t) text at states l flag after here unknown
+              (rw (states-long text flags places n) h)) ∙ d .same t);
+            index =
+              index-more text flags places n (at + 2) (length label) (flagOf line) room first second head next label (d .index)
+              (omega arith) (omega arith) (omega arith) is-label stands refl
+              (asked-not text flags places first second head next n (d .index) label is-label none′);
+            few = omega arith;
+            in-text = let i = ended-inside (drop at text) (here .whole) in omega (arith, length-drop at text, here .next-is, d .in-text);
+            flags-blank = subst (Blank (set flags n (flagOf line))) (omega arith) (blank-set flags n n (flagOf line) (d .flags-blank) (omega arith));
+            places-blank =
+              subst (Blank (set (set places (2 * n) (at + 2)) (2 * n + 1) (length label))) (omega arith)
+              (blank-set (set places (2 * n) (at + 2)) (suc (2 * n)) (2 * n + 1) (length label)
+              (blank-set places (2 * n) (2 * n) (at + 2) (d .places-blank) (omega arith)) (omega arith));
+          })
+        where
+          line : List ℕ
+          line = firstLine (drop at text)
 
-        pub declared-more : n < held → held ≤ length flags → 2 * held ≤ length places → held ≤ length first → held ≤ length second → held ≤ length next
-            → Declared text held (set flags n flag) (set (set places (2 * n) (at + 2)) (2 * n + 1) (l .len)) (set first n (l .first)) (set second n (l .second))
-              (set head (bucketOf (l .first) (l .second)) (n + 1)) (set next n (getD head (bucketOf (l .first) (l .second)) 0)) after (n + 1)
-        unfolding labelOf
-        declared-more h in-flags in-places in-first in-second in-next =
-            rw (here .label-is, here .flag-is)
-            (record {
-              same = λ t.
-                rw (states-more text flags places n (at + 2) (length label) (flagOf line) room (omega arith), stands)
-                (sym
-                (state-more pieces-ended pieces-rest pieces-some letter-state letter-transition (roomFor held t) text at states l flag after here unknown
-                (rw (states-long text flags places n) h)) ∙ d .same t);
-              index =
-                index-more text flags places n (at + 2) (length label) (flagOf line) room first second head next label (d .index)
-                (omega arith) (omega arith) (omega arith) is-label stands
-                (asked-not words-differ text flags places first second head next n (d .index) label is-label none′);
-              few = omega arith;
-              in-text = let i = ended-inside (drop at text) (here .whole) in omega (arith, length-drop at text, here .next-is, d .in-text);
-              flags-blank = subst (Blank (set flags n (flagOf line))) (omega arith) (blank-set flags n n (flagOf line) (d .flags-blank) (omega arith));
-              places-blank =
-                subst (Blank (set (set places (2 * n) (at + 2)) (2 * n + 1) (length label))) (omega arith)
-                (blank-set (set places (2 * n) (at + 2)) (suc (2 * n)) (2 * n + 1) (length label)
-                (blank-set places (2 * n) (2 * n) (at + 2) (d .places-blank) (omega arith)) (omega arith));
-            })
-          where
-            line : List ℕ
-            line = firstLine (drop at text)
+          room : 2 * n + 1 < length places
+          room = omega arith
 
-            room : 2 * n + 1 < length places
-            room = omega arith
-
-            stands : take (length label) (drop (at + 2) text) ≡ label
-            stands = rw (drop-drop 2 at text) at (state-place (drop at text) (here .whole) (here .is))
+          stands : take (length label) (drop (at + 2) text) ≡ label
+          stands = rw (drop-drop 2 at text) at (state-place (drop at text) (here .whole) (here .is))

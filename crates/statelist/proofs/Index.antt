@@ -22,6 +22,7 @@ use Rattle.pairs.specs.declared.Found.the-variants.{At, Nothing}
 use Rattle.pairs.specs.Pairs.{isPair, found, bucketOf, Chain}
 use Rattle.pairs.proofs.Last.{found-nothing, found-at, any-found-nothing, any-found-at}
 use Rattle.pairs.proofs.Chain.{chain-none, chain-more}
+use Rattle.lines.proofs.Words.{words-differ}
 use Rattle.statelist.specs.Text.{State, declared, numberOf}
 use Rattle.statelist.specs.Labels.{labelAt}
 use Rattle.statelist.specs.Loops.{stateAt, statesIn, Index}
@@ -37,56 +38,53 @@ number-from l f k (suc n) (suc i) h e ne =
     rw (ne-same l (f k .label) other)
     (ap suc (number-from l f (suc k) n i (omega arith) (rw (past i) e) (λ j b. rw (past j) (ne (suc j) (omega arith)))))
 
-module _
-  (words-differ : (l m : List ℕ) → isLabel l ≡ true → isLabel m ≡ true → firstWord l ≡ firstWord m → secondWord l ≡ secondWord m → l ≡ m)
-  where
+module _ (text flags places first second head next : List ℕ) (n : ℕ) (x : Index text places first second head next n) (l : List ℕ) (is : isLabel l ≡ true) where
+  abbrev asked : ℕ → Bool
+  asked = isPair first second (firstWord l) (secondWord l)
 
-  module _ (text flags places first second head next : List ℕ) (n : ℕ) (x : Index text places first second head next n) (l : List ℕ) (is : isLabel l ≡ true) where
-    abbrev asked : ℕ → Bool
-    asked = isPair first second (firstWord l) (secondWord l)
+  pub asked-label : (i : ℕ) → i < n → asked i ≡ true → labelAt text places i ≡ l
+  unfolding isPair
+  asked-label i h e =
+      let parts = and-cases _ _ e in
+      let one = eqb-true (getD first i 0) (firstWord l) (parts .0) in
+      let two = eqb-true (getD second i 0) (secondWord l) (parts .1) in
+      words-differ _ l (x .labels i h) is (sym (x .firsts i h) ∙ one) (sym (x .seconds i h) ∙ two)
 
-    pub asked-label : (i : ℕ) → i < n → asked i ≡ true → labelAt text places i ≡ l
-    unfolding isPair
-    asked-label i h e =
-        let parts = and-cases _ _ e in
-        let one = eqb-true (getD first i 0) (firstWord l) (parts .0) in
-        let two = eqb-true (getD second i 0) (secondWord l) (parts .1) in
-        words-differ _ l (x .labels i h) is (sym (x .firsts i h) ∙ one) (sym (x .seconds i h) ∙ two)
+  pub label-asked : (i : ℕ) → i < n → labelAt text places i ≡ l → asked i ≡ true
+  unfolding isPair
+  label-asked i h e =
+      let one : getD first i 0 ≡ firstWord l = x .firsts i h ∙ ap firstWord e in
+      let two : getD second i 0 ≡ secondWord l = x .seconds i h ∙ ap secondWord e in
+      rw (eq-eqb _ _ one) (eq-eqb _ _ two)
 
-    pub label-asked : (i : ℕ) → i < n → labelAt text places i ≡ l → asked i ≡ true
-    unfolding isPair
-    label-asked i h e =
-        let one : getD first i 0 ≡ firstWord l = x .firsts i h ∙ ap firstWord e in
-        let two : getD second i 0 ≡ secondWord l = x .seconds i h ∙ ap secondWord e in
-        rw (eq-eqb _ _ one) (eq-eqb _ _ two)
+  pub asked-not : found asked n ≡ Nothing → (i : ℕ) → i < n → labelAt text places i ≢ l
+  asked-not q i h e = clash (label-asked i h e) (found-nothing asked n q i h)
 
-    pub asked-not : found asked n ≡ Nothing → (i : ℕ) → i < n → labelAt text places i ≢ l
-    asked-not q i h e = clash (label-asked i h e) (found-nothing asked n q i h)
+  pub label-unknown : found asked n ≡ Nothing → declared l (statesIn text flags places n) ≡ false
+  unfolding declared statesIn stateAt
+  label-unknown q = any-found-nothing asked _ _ n q (λ i h e. ne-same l _ (λ s. asked-not q i h (sym s)))
 
-    pub label-unknown : found asked n ≡ Nothing → declared l (statesIn text flags places n) ≡ false
-    unfolding declared statesIn stateAt
-    label-unknown q = any-found-nothing asked _ _ n q (λ i h e. ne-same l _ (λ s. asked-not q i h (sym s)))
+  pub label-known : (i : ℕ) → found asked n ≡ At i → declared l (statesIn text flags places n) ≡ true
+  unfolding declared statesIn stateAt
+  label-known i q = any-found-at asked _ _ n i q (λ e. eq-same l _ (sym (asked-label i (found-at asked n i q .0) e)))
 
-    pub label-known : (i : ℕ) → found asked n ≡ At i → declared l (statesIn text flags places n) ≡ true
-    unfolding declared statesIn stateAt
-    label-known i q = any-found-at asked _ _ n i q (λ e. eq-same l _ (sym (asked-label i (found-at asked n i q .0) e)))
-
-    pub label-number : (i : ℕ) → found asked n ≡ At i → numberOf l (statesIn text flags places n) ≡ i
-    unfolding statesIn stateAt
-    label-number i q =
-        let at = found-at asked n i q in
-        let is-i = asked-label i (at .0) (at .1) in
-        number-from l (stateAt text flags places) 0 n i (at .0) (rw (zero-add i) is-i)
-        (λ j b e.
-          let is-j : labelAt text places j ≡ l = rw (zero-add j) at e in
-          let one = x .differ j i (omega (arith, at .0)) (at .0) (is-j ∙ sym is-i) in
-          omega arith)
+  pub label-number : (i : ℕ) → found asked n ≡ At i → numberOf l (statesIn text flags places n) ≡ i
+  unfolding statesIn stateAt
+  label-number i q =
+      let at = found-at asked n i q in
+      let is-i = asked-label i (at .0) (at .1) in
+      number-from l (stateAt text flags places) 0 n i (at .0) (rw (zero-add i) is-i)
+      (λ j b e.
+        let is-j : labelAt text places j ≡ l = rw (zero-add j) at e in
+        let one = x .differ j i (omega (arith, at .0)) (at .0) (is-j ∙ sym is-i) in
+        omega arith)
 
 pub index-none : (text places first second head next : List ℕ) → Chain first second head next 0 → Index text places first second head next 0
 index-none text places first second head next c =
     record {
       chain = c;
       labels = λ i h. absurd (omega arith);
+      lengths = λ i h. absurd (omega arith);
       firsts = λ i h. absurd (omega arith);
       seconds = λ i h. absurd (omega arith);
       differ = λ i j h k e. absurd (omega arith);
@@ -127,14 +125,15 @@ module _ (text flags places : List ℕ) (n start len flag : ℕ) (room : 2 * n +
       rw (add-one n, tab-more 0 n (stateAt text (set flags n flag) places′), tab-ext n _ _ old, zero-add n, label-new, start-new, getD-set-same flags n flag 0 in-flags)
 
   pub index-more : (first second head next : List ℕ) (l : List ℕ) → Index text places first second head next n
-      → n < length first → n < length second → n < length next → isLabel l ≡ true → take len (drop start text) ≡ l
+      → n < length first → n < length second → n < length next → isLabel l ≡ true → take len (drop start text) ≡ l → length l ≡ len
       → ((i : ℕ) → i < n → labelAt text places i ≢ l)
       → Index text places′ (set first n (firstWord l)) (set second n (secondWord l)) (set head (bucketOf (firstWord l) (secondWord l)) (n + 1))
         (set next n (getD head (bucketOf (firstWord l) (secondWord l)) 0)) (n + 1)
-  index-more first second head next l x in-first in-second in-next is there new =
+  index-more first second head next l x in-first in-second in-next is there long new =
       record {
         chain = chain-more first second n (firstWord l) (secondWord l) head next (x .chain) in-first in-second in-next;
         labels = λ i h. each (λ m. isLabel m ≡ true) (λ i k. x .labels i k) is i h (same? i n);
+        lengths = λ i h. length-at i h (same? i n);
         firsts = λ i h. first-at i h (same? i n);
         seconds = λ i h. second-at i h (same? i n);
         differ = λ i j h k e. apart i j h k e (same? i n) (same? j n);
@@ -146,6 +145,11 @@ module _ (text flags places : List ℕ) (n start len flag : ℕ) (room : 2 * n +
       each : (Q : List ℕ → Type 0) → ((i : ℕ) → i < n → Q (labelAt text places i)) → Q l → (i : ℕ) → i < n + 1 → (i ≡ n) ⊎ (i ≢ n) → Q (labelAt text places′ i)
       each Q old last i h (inl e) = rw (e, label-n) last
       each Q old last i h (inr ne) = rw (label-old i (omega arith)) (old i (omega arith))
+
+      length-at : (i : ℕ) → i < n + 1 → (i ≡ n) ⊎ (i ≢ n) → length (labelAt text places′ i) ≡ getD places′ (2 * i + 1) 0
+      length-at i h (inl e) = rw (e, label-n, len-new) long
+      length-at i h (inr ne) =
+          rw (label-old i (omega arith), other-place (2 * i + 1) (λ e. omega arith) (λ e. omega arith)) (x .lengths i (omega arith))
 
       first-at : (i : ℕ) → i < n + 1 → (i ≡ n) ⊎ (i ≢ n) → getD (set first n (firstWord l)) i 0 ≡ firstWord (labelAt text places′ i)
       first-at i h (inl e) = rw (e, label-n) (getD-set-same first n _ 0 in-first)

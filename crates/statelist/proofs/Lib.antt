@@ -1,5 +1,4 @@
 -- Laws of what a text means and of the four lists, then of the loops that read it.
-pub mod Pieces
 pub mod Targets
 pub mod Good
 pub mod Meaning
@@ -10,4 +9,6 @@ pub mod Zeros
 pub mod Here
 pub mod Index
 pub mod Declared
+pub mod Listed
+pub mod Ends
 pub mod Cases

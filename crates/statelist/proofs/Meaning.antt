@@ -13,7 +13,8 @@ use Rattle.graphs.proofs.Tests.{clash, cond-ind}
 use Rattle.lines.specs.Line.{pieces, field, isState}
 use Rattle.lines.specs.Found.{firstLine, ended}
 use Rattle.statelist.specs.Text.{Rooms, Seen, Meaning, reads, refused, isNil, oneLine, thenOn, atEnd, readLines, nothing, most-text, meaning}
-use Rattle.statelist.proofs.Pieces.{pieces-ended, state-place}
+use Rattle.lines.proofs.Pieces.{pieces-ended}
+use Rattle.lines.proofs.Records.{state-place}
 use Rattle.statelist.proofs.Good.{Good, Either, After, nothing-good, line-good}
 
 not-nil : {A : Type 0} (l : List A) → isNil l ≡ false → 1 ≤ length l

@@ -11,8 +11,8 @@ use Rattle.lines.specs.Line.{pieces, isLabel}
 use Rattle.lines.specs.Found.{firstWord, secondWord}
 use Rattle.pairs.specs.Pairs.{Chain}
 use Rattle.statelist.specs.Text.{State, Transition, Rooms, Seen, Meaning, reads, refused, readLines}
-use Rattle.statelist.specs.Lists.{Told, graph, refusal, told, targetsFrom}
-use Rattle.statelist.specs.Labels.{labelAt}
+use Rattle.statelist.specs.Lists.{refusal, told, targetsFrom, filled}
+use Rattle.statelist.specs.Labels.{labelAt, comes}
 use Rattle.statelist.specs.declared.Reading.{Reading}
 use Rattle.statelist.specs.declared.went.Went.{Went}
 use Rattle.statelist.specs.declared.went.Went.the-variants.{On, Stop}
@@ -40,6 +40,7 @@ from-here rooms text at states transitions =
 pub record Index (text places first second head next : List ℕ) (n : ℕ) : Type 0 where
   pub chain : Chain first second head next n
   pub labels : (i : ℕ) → i < n → isLabel (labelAt text places i) ≡ true
+  pub lengths : (i : ℕ) → i < n → length (labelAt text places i) ≡ getD places (2 * i + 1) 0
   pub firsts : (i : ℕ) → i < n → getD first i 0 ≡ firstWord (labelAt text places i)
   pub seconds : (i : ℕ) → i < n → getD second i 0 ≡ secondWord (labelAt text places i)
   pub differ : (i j : ℕ) → i < n → j < n → labelAt text places i ≡ labelAt text places j → i ≡ j
@@ -73,3 +74,30 @@ abbrev pub StatesRead : (text : List ℕ) (held : ℕ) (flags places first secon
 StatesRead text held flags places first second head next (On at n) =
     Declared text held flags places first second head next at n × (getD text at 0 ≢ 83)
 StatesRead text held flags places first second head next (Stop r) = (t : ℕ) → Refused r (from-here (roomFor held t) text 0 [] [])
+
+-- e transitions were read from `start` up to a place of the text, and counted by their sources in `offsets`; whatever the flags of the states, and
+-- the room for states
+pub record Listed (text : List ℕ) (held n start : ℕ) (first second head next offsets from to last prev : List ℕ) (at e : ℕ) : Type 0 where
+  pub same : (flags places : List ℕ) (h : ℕ) → Index text places first second head next n
+      → from-here (roomFor h held) text at (statesIn text flags places n) (transitionsIn from to e)
+      ≡ from-here (roomFor h held) text start (statesIn text flags places n) []
+  pub chain : Chain from to last prev e
+  pub counts : (v : ℕ) → getD offsets v 0 ≡ length (targetsFrom v (transitionsIn from to e))
+  pub below : (i : ℕ) → i < e → (getD from i 0 < n) × (getD to i 0 < n)
+  pub few : e ≤ held
+  pub in-text : at ≤ length text
+  pub letter : e ≡ 0 → getD text at 0 ≢ 83
+
+-- what reading the T lines gives
+abbrev pub TransitionsRead : (text : List ℕ) (held n start : ℕ) (first second head next offsets from to last prev : List ℕ) → Went → Type 0
+TransitionsRead text held n start first second head next offsets from to last prev (On at e) =
+    Listed text held n start first second head next offsets from to last prev at e × (length text ≤ at)
+TransitionsRead text held n start first second head next offsets from to last prev (Stop r) =
+    (flags places : List ℕ) (h : ℕ) → Index text places first second head next n
+    → Refused r (from-here (roomFor h held) text start (statesIn text flags places n) [])
+
+-- what comes of the lists once the text is read: if it is refused, they may be left in any state
+abbrev pub Fills : (offsets targets flags places : List ℕ) → Reading → Meaning → Type 0
+Fills offsets targets flags places r (reads seen) =
+    comes r offsets targets flags places ≡ filled (length offsets) (length targets) (length flags) (length places) (reads seen)
+Fills offsets targets flags places r (refused number line) = told r ≡ refusal number line

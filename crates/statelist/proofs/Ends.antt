@@ -1,0 +1,111 @@
+-- Laws of the end of a reading: flags and places in the lent lists are the page's, and so is what comes of the call.
+use Prim.Native.Nat.{ℕ, zero, suc, _+_, _-_, _*_, _<_, _≤_}
+use mathlib.Core.Path.{_≡_, refl, sym, ap, _∙_, subst}
+use mathlib.Core.Bool.{Bool, true, false}
+use mathlib.Core.List.{List, [], _∷_, _++_, map, append-assoc}
+use mathlib.Core.Logic.{_≢_}
+use lib.ListN.{length, getD, take, drop, replicate, length-take, length-drop, take-append-drop, length-replicate, getD-replicate}
+use lib.Seq.{ext-getD, getD-drop, take-suc, length-take-le}
+use native.Mathlib.Nat.{zero-add}
+use native.Mathlib.Omega.{arith}
+use Rattle.graphs.specs.Lists.{tab}
+use Rattle.graphs.proofs.Tab.{tab-more, tab-long}
+use Rattle.graphs.proofs.Stamps.{zeroes-at}
+use Rattle.lines.specs.Line.{pieces, isState, isTransition}
+use Rattle.lines.specs.Found.{firstLine, ended}
+use Rattle.statelist.specs.declared.Reading.{Reading}
+use Rattle.statelist.specs.declared.Reading.the-variants.{Graph, NoState}
+use Rattle.statelist.specs.Text.{State, Transition, Seen, Meaning, reads, refused, isNil, atEnd}
+use Rattle.statelist.specs.Lists.{zeros, padded, flagsOf, placesOf, targetsOf, offsetsOf, graph, filled}
+use Rattle.statelist.specs.Labels.{labelAt, comes}
+use Rattle.statelist.specs.Loops.{stateAt, statesIn, transitionsIn, from-here, Index, Blank, roomFor, Declared, Listed, Fills}
+use Rattle.statelist.proofs.Here.{nil-none, nil-some, end-here}
+use Rattle.statelist.proofs.Declared.{states-long}
+use Rattle.statelist.proofs.Listed.{transitions-long}
+
+-- a list whose words from n on are 0 is its first n words, padded
+pub blank-padded : (l : List ℕ) (n : ℕ) → n ≤ length l → Blank l n → l ≡ padded (length l) (take n l)
+unfolding padded
+blank-padded l n h b =
+    let long = length-take-le n l h in
+    sym (take-append-drop n l) ∙ ap (λ r. take n l ++ r) (rest ∙ ap zeros (ap (λ k. length l - k) (sym long)))
+  where
+    rest : drop n l ≡ zeros (length l - n)
+    rest =
+        ext-getD 0 (drop n l) (zeros (length l - n)) (length-drop n l ∙ sym (length-replicate (length l - n) 0))
+        (λ i k. getD-drop n l i 0 ∙ b (n + i) (omega arith) ∙ sym (zeroes-at (length l - n) i))
+
+flags-join : (a b : List State) → flagsOf (a ++ b) ≡ flagsOf a ++ flagsOf b
+unfolding flagsOf
+flags-join [] b = refl
+flags-join (s ∷ a) b = ap (λ l. s .flag ∷ l) (flags-join a b)
+
+places-join : (a b : List State) → placesOf (a ++ b) ≡ placesOf a ++ placesOf b
+unfolding placesOf
+places-join [] b = refl
+places-join (s ∷ a) b = ap (λ l. s .start ∷ length (s .label) ∷ l) (places-join a b)
+
+module _ (text flags places : List ℕ) where
+  no-states : statesIn text flags places 0 ≡ []
+  unfolding statesIn tab
+  no-states = refl
+
+  last-state : (n : ℕ) → statesIn text flags places (suc n) ≡ statesIn text flags places n ++ (stateAt text flags places n ∷ [])
+  unfolding statesIn
+  last-state n = tab-more 0 n (stateAt text flags places) ∙ ap (λ i. tab 0 n (stateAt text flags places) ++ (stateAt text flags places i ∷ [])) (zero-add n)
+
+  pub flags-in : (n : ℕ) → n ≤ length flags → flagsOf (statesIn text flags places n) ≡ take n flags
+  unfolding stateAt flagsOf
+  flags-in zero h = ap flagsOf no-states
+  flags-in (suc n) h =
+      rw (last-state n, flags-join (statesIn text flags places n) (stateAt text flags places n ∷ []), flags-in n (omega arith))
+      (sym (take-suc flags n 0 h))
+
+  pub places-in : (n : ℕ) → 2 * n ≤ length places → ((i : ℕ) → i < n → length (labelAt text places i) ≡ getD places (2 * i + 1) 0)
+      → placesOf (statesIn text flags places n) ≡ take (2 * n) places
+  unfolding stateAt placesOf
+  places-in zero h long = ap placesOf no-states
+  places-in (suc n) h long =
+      let two : 2 * suc n ≡ suc (suc (2 * n)) = omega arith in
+      let one : suc (2 * n) ≡ 2 * n + 1 = omega arith in
+      rw (two, last-state n, places-join (statesIn text flags places n) (stateAt text flags places n ∷ []),
+        places-in n (omega arith) (λ i k. long i (omega arith)), long n (omega arith),
+        take-suc places (suc (2 * n)) 0 (omega arith), take-suc places (2 * n) 0 (omega arith), one)
+      (sym (append-assoc (take (2 * n) places) (getD places (2 * n) 0 ∷ []) (getD places (2 * n + 1) 0 ∷ [])))
+
+-- all lines were read: n states up to `start`, then e transitions up to the end
+module _ (text : List ℕ) (held heldT : ℕ) (flags places first second head next counted from to last prev : List ℕ) (start n at e : ℕ)
+    (d : Declared text held flags places first second head next start n)
+    (l : Listed text heldT n start first second head next counted from to last prev at e) (end : length text ≤ at) where
+  abbrev states : List State
+  states = statesIn text flags places n
+
+  abbrev ts : List Transition
+  ts = transitionsIn from to e
+
+  abbrev all-seen : Seen
+  all-seen = record { line = suc (length states + length ts); at = at; states = states; transitions = ts }
+
+  ends : from-here (roomFor held heldT) text 0 [] [] ≡ atEnd [] all-seen
+  ends =
+      sym (l .same flags places held (d .index) ∙ d .same heldT)
+      ∙ end-here (roomFor held heldT) text at states ts end
+
+  pub ends-none : n ≡ 0 → (offsets targets : List ℕ) → Fills offsets targets flags places NoState (from-here (roomFor held heldT) text 0 [] [])
+  unfolding atEnd isNil
+  ends-none none offsets targets =
+      let means : from-here (roomFor held heldT) text 0 [] [] ≡ refused 8 0 = ends ∙ rw (nil-none states (states-long text flags places n ∙ none)) in
+      subst (Fills offsets targets flags places NoState) (sym means) refl
+
+  pub ends-graph : 0 < n → (offsets targets : List ℕ) → n ≤ length flags → 2 * n ≤ length places
+      → offsets ≡ padded (length offsets) (offsetsOf n ts) → targets ≡ padded (length targets) (targetsOf n ts)
+      → Fills offsets targets flags places (Graph n e) (from-here (roomFor held heldT) text 0 [] [])
+  unfolding atEnd isNil
+  ends-graph some offsets targets in-flags in-places offsets-are targets-are =
+      let flags-are : flags ≡ padded (length flags) (flagsOf states) =
+          blank-padded flags n in-flags (d .flags-blank) ∙ ap (padded (length flags)) (sym (flags-in text flags places n in-flags)) in
+      let places-are : places ≡ padded (length places) (placesOf states) =
+          blank-padded places (2 * n) in-places (d .places-blank) ∙ ap (padded (length places)) (sym (places-in text flags places n in-places (d .index .lengths))) in
+      let means : from-here (roomFor held heldT) text 0 [] [] ≡ reads all-seen = ends ∙ rw (nil-some states (omega (arith, states-long text flags places n))) in
+      subst (Fills offsets targets flags places (Graph n e)) (sym means)
+      (rw (states-long text flags places n, transitions-long from to e) cc)
