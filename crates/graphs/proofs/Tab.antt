@@ -1,5 +1,5 @@
 -- Laws of `tab`, the values of a function as a list: their number, the value at a place, one more value, one store for one change, that equal
--- lists come from equal functions and give them, and whether some value passes a test.
+-- lists come from equal functions and give them, and whether every or some value passes a test.
 use Prim.Native.Nat.{ℕ, zero, suc, _+_, _<_}
 use mathlib.Core.Path.{_≡_, refl, sym, ap, _∙_}
 use mathlib.Core.Bool.{Bool, true, false}
@@ -7,9 +7,9 @@ use mathlib.Core.List.{List, [], _∷_, _++_}
 use mathlib.Core.Logic.{_≢_}
 use lib.ListN.{length, getD, set, length-set}
 use lib.Seq.{ext-getD, getD-set-same, getD-set-other}
-use native.Mathlib.Nat.{add-zero, zero-add, suc-add, add-suc}
+use native.Mathlib.Nat.{add-zero, zero-add}
 use native.Mathlib.Omega.{arith}
-use Rattle.graphs.specs.Lists.{tab, upd, any}
+use Rattle.graphs.specs.Lists.{tab, upd, all, any}
 use Rattle.graphs.proofs.Tests.{or-inl, or-inr}
 use Rattle.graphs.proofs.Change.{upd-ind}
 
@@ -38,6 +38,13 @@ module _ {ℓ} {A : Type ℓ} where
       let here : f i ≡ h i = rw (add-zero i) at (e 0 (omega arith)) in
       let rest = ext-from (suc i) n f h (λ s k. let q : suc i + s ≡ i + suc s = omega arith in rw q (e (suc s) (omega arith))) in
       cc
+
+  all-from : (i n : ℕ) (g : A → Bool) (h : ℕ → A) → ((s : ℕ) → s < n → g (h (i + s)) ≡ true) → all g (tab i n h) ≡ true
+  unfolding tab all
+  all-from i zero g h e = refl
+  all-from i (suc n) g h e =
+      let here : g (h i) ≡ true = rw (add-zero i) at (e 0 (omega arith)) in
+      rw here (all-from (suc i) n g h (λ s k. let q : suc i + s ≡ i + suc s = omega arith in rw q (e (suc s) (omega arith))))
 
   none-from : (i n : ℕ) (g : A → Bool) (h : ℕ → A) → ((s : ℕ) → s < n → g (h (i + s)) ≡ false) → any g (tab i n h) ≡ false
   unfolding tab any
@@ -80,7 +87,10 @@ module _ {ℓ} {A : Type ℓ} where
         there : (i : ℕ) → i ≢ s → i < n → f i ≡ getD (set (tab 0 n f) s v) i v
         there i ne k = sym (getD-set-other (tab 0 n f) s i v v ne ∙ tab-word f i v k)
 
-    -- whether some value passes a test
+    -- whether every value, and some value, passes a test
+    pub all-tab : (g : A → Bool) (h : ℕ → A) → ((i : ℕ) → i < n → g (h i) ≡ true) → all g (tab 0 n h) ≡ true
+    all-tab g h e = all-from 0 n g h (λ s k. rw (zero-add s) (e s k))
+
     pub any-tab-none : (g : A → Bool) (h : ℕ → A) → ((i : ℕ) → i < n → g (h i) ≡ false) → any g (tab 0 n h) ≡ false
     any-tab-none g h e = none-from 0 n g h (λ s k. rw (zero-add s) (e s k))
 

@@ -60,7 +60,9 @@ parted? c (b ∷ l) = go (same? b c) (parted? c l)
     go : (b ≡ c) ⊎ (b ≢ c) → (elem c l ≡ false) ⊎ Parted c l → (elem c (b ∷ l) ≡ false) ⊎ Parted c (b ∷ l)
     go (inl e) tail = inr record { first = []; rest = l; free = refl; is = cc }
     go (inr ne) (inl e) = inl (free-cons c b l ne e)
-    go (inr ne) (inr p) = inr record { first = b ∷ p .first; rest = p .rest; free = free-cons c b (p .first) ne (p .free); is = ap (λ m. b ∷ m) (p .is) }
+    go (inr ne) (inr p) =
+        let free = free-cons c b (p .first) ne (p .free) in
+        inr record { first = b ∷ p .first; rest = p .rest; free = free; is = ap (λ m. b ∷ m) (p .is) }
 
 pub parted-cut : {c : ℕ} {l : List ℕ} (p : Parted c l) → cut c l ≡ p .first ∷ cut c (p .rest)
 parted-cut {c} {l} p = ap (cut c) (p .is) ∙ cut-at c (p .first) (p .rest) (p .free)

@@ -1,6 +1,6 @@
 -- What is found at a place of a text, by the tests of `state_line` and `transition_line`: a line that the page says is a state or a transition
 -- passes them all, and bytes that pass them all are such a line.
-use Prim.Native.Nat.{ℕ, suc, _+_, _≤_, _<_}
+use Prim.Native.Nat.{ℕ, suc, _+_, _<_}
 use mathlib.Core.Path.{_≡_, refl, sym, ap, _∙_}
 use mathlib.Core.Bool.{Bool, true, false, cond, _&&_, _||_}
 use mathlib.Core.List.{List, [], _∷_, _++_}
@@ -23,9 +23,10 @@ use Rattle.lines.specs.declared.StateLine.the-variants.{State, NoState}
 use Rattle.lines.specs.declared.TransitionLine.the-variants.{Transition, NoTransition}
 use Rattle.lines.specs.declared.scan.Front.the-variants.{Stands, Nothing}
 use Rattle.lines.proofs.Bytes.{line-feed-ends}
-use Rattle.lines.proofs.Labels.{here-split, here-label, here-is, label-some, label-long}
+use Rattle.lines.proofs.Labels.{here-split, here-label, here-is, label-some}
 use Rattle.lines.proofs.Front.{drop-byte, front-begun}
-use Rattle.lines.proofs.Lines.{three, line-long, Plain, label-plain, three-ended, three-first, three-fields, three-of, three-front, three-rest}
+use Rattle.lines.proofs.Lines.{three, line-long, Plain, label-plain, three-ended, three-first, three-fields}
+use Rattle.lines.proofs.Lines.{three-of, three-front, three-rest}
 use Rattle.lines.proofs.Records.{Passed, flagged, state-passed, transition-passed}
 
 -- a line with the letter, a label and a last field stands first
@@ -90,7 +91,8 @@ transition-three at a b r good last =
 byte-at : (text : List ℕ) (at k : ℕ) (l : List ℕ) → drop at text ≡ l → getD text (at + k) 0 ≡ getD l k 0
 byte-at text at k l e = sym (getD-drop at text k 0) ∙ ap (λ m. getD m k 0) e
 
-no-front : (text : List ℕ) (at letter : ℕ) (last : List ℕ → Bool) → Nothing ≡ frontOf at letter (drop at text) → Formed (drop at text) letter last → ⊥
+no-front : (text : List ℕ) (at letter : ℕ) (last : List ℕ → Bool) → Nothing ≡ frontOf at letter (drop at text)
+    → Formed (drop at text) letter last → ⊥
 no-front text at letter last e f =
     let both = e ∙ three-front text at letter (f .label) (f .end) (f .rest) (f .good) (f .is) in
     clash {b = true} refl (cc)
@@ -108,18 +110,21 @@ module _ (text : List ℕ) (at : ℕ) (l : Label) (after : ℕ) (front : Stands 
       → (eqb (getD text (after + 1) 0) 10 ≡ true) × ((eqb (getD text after 0) 97 || eqb (getD text after 0) 45) ≡ true)
   flag-follows f = go (or-cases (same (f .end) accepting) (same (f .end) plain) (f .passed))
     where
-      left : drop after text ≡ f .end ++ 10 ∷ f .rest
-      left = three-rest text at 83 (f .label) (f .end) (f .rest) (f .good) (f .is) l after (sym front)
+      flag : ℕ
+      flag = getD text after 0
 
-      bytes : (x : ℕ) → same (f .end) (x ∷ []) ≡ true → (getD text after 0 ≡ x) × (eqb (getD text (after + 1) 0) 10 ≡ true)
+      bytes : (x : ℕ) → same (f .end) (x ∷ []) ≡ true → (eqb flag x ≡ true) × (eqb (getD text (after + 1) 0) 10 ≡ true)
       bytes x e =
-          let here : drop after text ≡ x ∷ 10 ∷ f .rest = left ∙ ap (λ m. m ++ 10 ∷ f .rest) (same-eq (f .end) (x ∷ []) e) in
-          (rw (add-zero after) at (byte-at text after 0 (x ∷ 10 ∷ f .rest) here), eq-eqb (getD text (after + 1) 0) 10 (byte-at text after 1 (x ∷ 10 ∷ f .rest) here))
+          let left : drop after text ≡ x ∷ 10 ∷ f .rest =
+          three-rest text at 83 (f .label) (f .end) (f .rest) (f .good) (f .is) l after front
+          ∙ ap (λ m. m ++ 10 ∷ f .rest) (same-eq (f .end) (x ∷ []) e) in
+          let first = rw (add-zero after) at (byte-at text after 0 (x ∷ 10 ∷ f .rest) left) in
+          (eq-eqb flag x first, eq-eqb (getD text (after + 1) 0) 10 (byte-at text after 1 (x ∷ 10 ∷ f .rest) left))
 
       go : (same (f .end) accepting ≡ true) ⊎ (same (f .end) plain ≡ true)
-          → (eqb (getD text (after + 1) 0) 10 ≡ true) × ((eqb (getD text after 0) 97 || eqb (getD text after 0) 45) ≡ true)
-      go (inl e) = let b = bytes 97 e in (b .1, or-inl (eqb (getD text after 0) 97) (eqb (getD text after 0) 45) (eq-eqb (getD text after 0) 97 (b .0)))
-      go (inr e) = let b = bytes 45 e in (b .1, or-inr (eqb (getD text after 0) 97) (eqb (getD text after 0) 45) (eq-eqb (getD text after 0) 45 (b .0)))
+          → (eqb (getD text (after + 1) 0) 10 ≡ true) × ((eqb flag 97 || eqb flag 45) ≡ true)
+      go (inl e) = let b = bytes 97 e in (b .1, or-inl (eqb flag 97) (eqb flag 45) (b .0))
+      go (inr e) = let b = bytes 45 e in (b .1, or-inr (eqb flag 97) (eqb flag 45) (b .0))
 
   pub state-no-feed : eqb (getD text (after + 1) 0) 10 ≡ false → NoState ≡ stateFound at (drop at text)
   state-no-feed e = state-none at (drop at text) (λ f. clash (flag-follows f .0) e)
@@ -130,7 +135,7 @@ module _ (text : List ℕ) (at : ℕ) (l : Label) (after : ℕ) (front : Stands 
   state-by : (x : ℕ) → 0 < x → Plain (x ∷ []) → flagged (x ∷ []) ≡ true → eqb (getD text (after + 1) 0) 10 ≡ true → eqb (getD text after 0) x ≡ true
       → State l (cond (same (x ∷ []) accepting) 1 0) (after + 2) ≡ stateFound at (drop at text)
   state-by x some pb last feed flag =
-      let b = front-begun text at 83 l after (omega arith) (sym front) in
+      let b = front-begun text at 83 l after (omega arith) front in
       let first : drop after text ≡ x ∷ drop (suc after) text = drop-byte text after x some (eqb-true (getD text after 0) x flag) in
       let second : drop (suc after) text ≡ 10 ∷ drop (suc (suc after)) text =
       drop-byte text (suc after) 10 (omega arith) (rw (add-one after) at (eqb-true (getD text (after + 1) 0) 10 feed)) in
@@ -141,11 +146,13 @@ module _ (text : List ℕ) (at : ℕ) (l : Label) (after : ℕ) (front : Stands 
       let place : at + (3 + length (b .label) + 1) + 1 ≡ after + 2 = omega (arith, b .place) in
       cc
 
-  pub state-accepting : eqb (getD text (after + 1) 0) 10 ≡ true → eqb (getD text after 0) 97 ≡ true → State l 1 (after + 2) ≡ stateFound at (drop at text)
+  pub state-accepting : eqb (getD text (after + 1) 0) 10 ≡ true → eqb (getD text after 0) 97 ≡ true
+      → State l 1 (after + 2) ≡ stateFound at (drop at text)
   unfolding same elem
   state-accepting feed flag = state-by 97 (omega arith) (record { tab-free = refl; feed-free = refl }) refl feed flag
 
-  pub state-plain : eqb (getD text (after + 1) 0) 10 ≡ true → eqb (getD text after 0) 45 ≡ true → State l 0 (after + 2) ≡ stateFound at (drop at text)
+  pub state-plain : eqb (getD text (after + 1) 0) 10 ≡ true → eqb (getD text after 0) 45 ≡ true
+      → State l 0 (after + 2) ≡ stateFound at (drop at text)
   unfolding same elem
   state-plain feed flag = state-by 45 (omega arith) (record { tab-free = refl; feed-free = refl }) refl feed flag
 
@@ -156,7 +163,8 @@ module _ (text : List ℕ) (at : ℕ) (l : Label) (after : ℕ) (front : Stands 
 
   label-follows : Formed (drop at text) 84 isLabel → (0 < length to) × (eqb (getD text (after + length to) 0) 10 ≡ true)
   label-follows f =
-      let left : drop after text ≡ f .end ++ 10 ∷ f .rest = three-rest text at 84 (f .label) (f .end) (f .rest) (f .good) (f .is) l after (sym front) in
+      let left : drop after text ≡ f .end ++ 10 ∷ f .rest =
+      three-rest text at 84 (f .label) (f .end) (f .rest) (f .good) (f .is) l after front in
       let is : to ≡ f .end = ap labelHere left ∙ here-is (f .end) 10 (f .rest) (f .passed) line-feed-ends in
       let byte = byte-at text after (length (f .end)) (f .end ++ 10 ∷ f .rest) left ∙ getD-append-seam (f .end) 10 (f .rest) 0 in
       (rw is (label-some (f .end) (f .passed)), rw is (eq-eqb (getD text (after + length (f .end)) 0) 10 byte))
@@ -170,18 +178,13 @@ module _ (text : List ℕ) (at : ℕ) (l : Label) (after : ℕ) (front : Stands 
   pub transition-is : 0 < length to → eqb (getD text (after + length to) 0) 10 ≡ true
       → Transition l (labelOf to) (after + length to + 1) ≡ transitionFound at (drop at text)
   transition-is some feed =
-      let b = front-begun text at 84 l after (omega arith) (sym front) in
+      let b = front-begun text at 84 l after (omega arith) front in
       let end : drop (length to) (drop after text) ≡ 10 ∷ drop (suc (after + length to)) text =
       drop-drop (length to) after text ∙ drop-byte text (after + length to) 10 (omega arith) (eqb-true (getD text (after + length to) 0) 10 feed) in
       let is : drop at text ≡ three 84 (b .label) to (drop (suc (after + length to)) text) =
       b .is ∙ ap (λ m. 84 ∷ 9 ∷ (b .label ++ 9 ∷ m)) (here-split (drop after text) ∙ ap (λ m. to ++ m) end) in
-      let found = ap (transitionFound at) is ∙ transition-three at (b .label) to (drop (suc (after + length to)) text) (b .good) (here-label (drop after text) some) in
+      let last = here-label (drop after text) some in
+      let found = ap (transitionFound at) is ∙ transition-three at (b .label) to (drop (suc (after + length to)) text) (b .good) last in
       let words = b .words in
       let place : at + (3 + length (b .label) + length to) + 1 ≡ after + length to + 1 = omega (arith, b .place) in
       cc
-
--- how far a front goes
-pub front-far : (text : List ℕ) (at letter : ℕ) (l : Label) (after : ℕ) → 0 < letter → Stands l after ≡ frontOf at letter (drop at text) → after ≤ at + 19
-front-far text at letter l after some e =
-    let b = front-begun text at letter l after some (sym e) in
-    omega (arith, b .place, label-long (b .label) (b .good))

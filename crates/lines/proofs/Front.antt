@@ -17,7 +17,7 @@ use Rattle.lines.specs.Scan.{labelHere, frontOf}
 use Rattle.lines.specs.declared.Label.{Label}
 use Rattle.lines.specs.declared.scan.Front.the-variants.{Stands, Nothing}
 use Rattle.lines.proofs.Bytes.{tab-ends}
-use Rattle.lines.proofs.Labels.{here-split, here-label, here-is, label-some}
+use Rattle.lines.proofs.Labels.{here-split, here-label, here-is, label-some, label-long}
 
 pub and-four : (a b c d : Bool) → (a && b && c && d) ≡ true → (a ≡ true) × (b ≡ true) × (c ≡ true) × (d ≡ true)
 and-four a b c d e =
@@ -62,7 +62,10 @@ module _ (text : List ℕ) (at letter : ℕ) where
   unfolding frontOf
   front-here e₁ e₂ some e₄ =
       let q : at + (2 + length named) ≡ at + 2 + length named = omega arith in
-      rw (drop-drop 2 at text, getD-drop at text (2 + length named) 0, q, e₄, getD-drop at text 0 0, add-zero at, e₁, getD-drop at text 1 0, e₂, lt-ltb 0 (length named) some)
+      let letter-at = getD-drop at text 0 0 in
+      let tab-at = getD-drop at text 1 0 in
+      let end-at = getD-drop at text (2 + length named) 0 in
+      rw (drop-drop 2 at text, end-at, q, e₄, letter-at, add-zero at, e₁, tab-at, e₂, lt-ltb 0 (length named) some)
 
 -- a front that was found: its label, and what stands in the text
 pub record Begun (text : List ℕ) (at letter : ℕ) (l : Label) (after : ℕ) : Type 0 where
@@ -72,44 +75,59 @@ pub record Begun (text : List ℕ) (at letter : ℕ) (l : Label) (after : ℕ) :
   pub place : after ≡ at + 3 + length label
   pub is : drop at text ≡ letter ∷ 9 ∷ (label ++ 9 ∷ drop after text)
 
-pub front-begun : (text : List ℕ) (at letter : ℕ) (l : Label) (after : ℕ) → 0 < letter → frontOf at letter (drop at text) ≡ Stands l after → Begun text at letter l after
-unfolding frontOf
-front-begun text at letter l after some e = go (either tests)
-  where
-    left : List ℕ
-    left = drop at text
+module _ (text : List ℕ) (at letter : ℕ) (l : Label) (after : ℕ) (some : 0 < letter)
+    (found : Stands l after ≡ frontOf at letter (drop at text)) where
+  pub front-begun : Begun text at letter l after
+  unfolding frontOf
+  front-begun = go (either (a && b && c && d))
+    where
+      left : List ℕ
+      left = drop at text
 
-    label : List ℕ
-    label = labelHere (drop 2 left)
+      label : List ℕ
+      label = labelHere (drop 2 left)
 
-    tests : Bool
-    tests = eqb (getD left 0 0) letter && eqb (getD left 1 0) 9 && ltb 0 (length label) && eqb (getD left (2 + length label) 0) 9
+      a : Bool
+      a = eqb (getD left 0 0) letter
 
-    go : (tests ≡ true) ⊎ (tests ≡ false) → Begun text at letter l after
-    go (inr t) = let z : Nothing ≡ Stands l after = rw t at e in absurd (clash {b = true} refl (cc))
-    go (inl t) =
-        let z : Stands (labelOf label) (at + 3 + length label) ≡ Stands l after = rw t at e in
-        let words : l ≡ labelOf label = cc in
-        let place : after ≡ at + 3 + length label = cc in
-        let parts = and-four (eqb (getD left 0 0) letter) (eqb (getD left 1 0) 9) (ltb 0 (length label)) (eqb (getD left (2 + length label) 0) 9) t in
-        let first : left ≡ letter ∷ drop 1 left = drop-byte left 0 letter some (eqb-true (getD left 0 0) letter (parts .0)) in
-        let second : drop 1 left ≡ 9 ∷ drop 2 left = drop-byte left 1 9 (omega arith) (eqb-true (getD left 1 0) 9 (parts .1)) in
-        let far : at + suc (2 + length label) ≡ after = omega arith in
-        let third : drop (2 + length label) left ≡ 9 ∷ drop after text =
-        drop-byte left (2 + length label) 9 (omega arith) (eqb-true (getD left (2 + length label) 0) 9 (parts .3))
-        ∙ ap (λ m. 9 ∷ m) (drop-drop (suc (2 + length label)) at text ∙ ap (λ k. drop k text) far) in
-        let rest : drop 2 left ≡ label ++ 9 ∷ drop after text =
-        here-split (drop 2 left) ∙ ap (λ m. label ++ m) (drop-drop (length label) 2 left ∙ third) in
-        record {
-          label = label;
-          good = here-label (drop 2 left) (ltb-true 0 (length label) (parts .2));
-          words = words;
-          place = place;
-          is = first ∙ ap (λ m. letter ∷ m) (second ∙ ap (λ m. 9 ∷ m) rest);
-        }
+      b : Bool
+      b = eqb (getD left 1 0) 9
+
+      c : Bool
+      c = ltb 0 (length label)
+
+      d : Bool
+      d = eqb (getD left (2 + length label) 0) 9
+
+      go : ((a && b && c && d) ≡ true) ⊎ ((a && b && c && d) ≡ false) → Begun text at letter l after
+      go (inr t) = let z : Stands l after ≡ Nothing = rw t at found in absurd (clash {b = true} refl (cc))
+      go (inl t) =
+          let z : Stands l after ≡ Stands (labelOf label) (at + 3 + length label) = rw t at found in
+          let words : l ≡ labelOf label = cc in
+          let place : after ≡ at + 3 + length label = cc in
+          let far : at + suc (2 + length label) ≡ after = omega arith in
+          let parts = and-four a b c d t in
+          let first : left ≡ letter ∷ drop 1 left = drop-byte left 0 letter some (eqb-true (getD left 0 0) letter (parts .0)) in
+          let second : drop 1 left ≡ 9 ∷ drop 2 left = drop-byte left 1 9 (omega arith) (eqb-true (getD left 1 0) 9 (parts .1)) in
+          let third : drop (2 + length label) left ≡ 9 ∷ drop after text =
+          drop-byte left (2 + length label) 9 (omega arith) (eqb-true (getD left (2 + length label) 0) 9 (parts .3))
+          ∙ ap (λ m. 9 ∷ m) (drop-drop (suc (2 + length label)) at text ∙ ap (λ k. drop k text) far) in
+          let rest : drop 2 left ≡ label ++ 9 ∷ drop after text =
+          here-split (drop 2 left) ∙ ap (λ m. label ++ m) (drop-drop (length label) 2 left ∙ third) in
+          record {
+            label = label;
+            good = here-label (drop 2 left) (ltb-true 0 (length label) (parts .2));
+            words = words;
+            place = place;
+            is = first ∙ ap (λ m. letter ∷ m) (second ∙ ap (λ m. 9 ∷ m) rest);
+          }
+
+  pub front-far : after ≤ at + 19
+  front-far = omega (arith, front-begun .place, label-long (front-begun .label) (front-begun .good))
 
 -- a front that stands there
-pub front-of : (at letter : ℕ) (a r : List ℕ) → isLabel a ≡ true → frontOf at letter (letter ∷ 9 ∷ (a ++ 9 ∷ r)) ≡ Stands (labelOf a) (at + 3 + length a)
+pub front-of : (at letter : ℕ) (a r : List ℕ) → isLabel a ≡ true
+    → frontOf at letter (letter ∷ 9 ∷ (a ++ 9 ∷ r)) ≡ Stands (labelOf a) (at + 3 + length a)
 unfolding frontOf
 front-of at letter a r e =
     let q : 2 + length a ≡ suc (suc (length a)) = omega arith in

@@ -121,9 +121,9 @@ module _ (text : List ℕ) (at letter : ℕ) (a b r : List ℕ) (good : isLabel 
   pub three-front : frontOf at letter (drop at text) ≡ Stands (labelOf a) (at + 3 + length a)
   three-front = rw is (front-of at letter a (b ++ 10 ∷ r) good)
 
-  pub three-rest : (l : Label) (after : ℕ) → frontOf at letter (drop at text) ≡ Stands l after → drop after text ≡ b ++ 10 ∷ r
+  pub three-rest : (l : Label) (after : ℕ) → Stands l after ≡ frontOf at letter (drop at text) → drop after text ≡ b ++ 10 ∷ r
   three-rest l after e =
-      let both = sym three-front ∙ e in
+      let both = e ∙ three-front in
       let place : at + 3 + length a ≡ after = cc in
       let q : at + (3 + length a) ≡ after = omega arith in
       ap (λ k. drop k text) (sym q) ∙ sym (drop-drop (3 + length a) at text) ∙ ap (drop (3 + length a)) is ∙ drop-front letter a (b ++ 10 ∷ r)

@@ -16,6 +16,15 @@ use Rattle.lines.proofs.Cut.{Parted, parted?, parted-cut, cut-free, cut
 pub pieces-some : (left : List ℕ) → (p : List ℕ) × (ps : List (List ℕ)) × (pieces left ≡ p ∷ ps)
 pieces-some left = cut-some 10 left
 
+-- a line feed stands in a text whose first line is ended
+pub ended-parted : (left : List ℕ) → ended left ≡ true → Parted 10 left
+unfolding ended
+ended-parted left e = go (parted? 10 left)
+  where
+    go : (elem 10 left ≡ false) ⊎ Parted 10 left → Parted 10 left
+    go (inl f) = absurd (clash (rw (cut-free 10 left f) at e) refl)
+    go (inr p) = p
+
 drop-past : (a : List ℕ) (c : ℕ) (r : List ℕ) → drop (suc (length a)) (a ++ c ∷ r) ≡ r
 drop-past [] c r = refl
 drop-past (x ∷ a) c r = drop-past a c r
@@ -32,14 +41,6 @@ module _ {left : List ℕ} (p : Parted 10 left) where
 
   pub parted-rest : drop (suc (length (firstLine left))) left ≡ p .rest
   parted-rest = rw parted-line (ap (drop (suc (length (p .first)))) (p .is) ∙ drop-past (p .first) 10 (p .rest))
-
-pub ended-parted : (left : List ℕ) → ended left ≡ true → Parted 10 left
-unfolding ended
-ended-parted left e = go (parted? 10 left)
-  where
-    go : (elem 10 left ≡ false) ⊎ Parted 10 left → Parted 10 left
-    go (inl f) = absurd (clash (rw (cut-free 10 left f) at e) refl)
-    go (inr p) = p
 
 pub pieces-ended : (left : List ℕ) → ended left ≡ true → pieces left ≡ firstLine left ∷ pieces (drop (suc (length (firstLine left))) left)
 pieces-ended left e = let p = ended-parted left e in rw (parted-rest p, parted-line p) (parted-cut p)

@@ -20,7 +20,8 @@ use Rattle.lines.proofs.Lines.{three-of}
 -- the tests that a line passed: three fields, the letter, the label, and the last field
 abbrev pub Passed : ℕ → (List ℕ → Bool) → List ℕ → Type 0
 Passed letter last line =
-    (eqb (length (fields line)) 3 ≡ true) × (same (field 0 line) (letter ∷ []) ≡ true) × (isLabel (field 1 line) ≡ true) × (last (field 2 line) ≡ true)
+    (eqb (length (fields line)) 3 ≡ true) × (same (field 0 line) (letter ∷ []) ≡ true)
+    × (isLabel (field 1 line) ≡ true) × (last (field 2 line) ≡ true)
 
 abbrev pub flagged : List ℕ → Bool
 flagged l = same l accepting || same l plain

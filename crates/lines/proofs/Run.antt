@@ -31,7 +31,8 @@ run-label zero l = refl
 run-label (suc k) [] = refl
 run-label (suc k) (b ∷ l) = cond-ind (λ n. all inLabel (take n (b ∷ l)) ≡ true) (inLabel b) (λ e. rw e (run-label k l)) (λ _. refl)
 
-pub run-of : (k : ℕ) (a : List ℕ) (b : ℕ) (r : List ℕ) → all inLabel a ≡ true → length a ≤ k → inLabel b ≡ false → labelRun k (a ++ b ∷ r) ≡ length a
+pub run-of : (k : ℕ) (a : List ℕ) (b : ℕ) (r : List ℕ) → all inLabel a ≡ true → length a ≤ k → inLabel b ≡ false
+    → labelRun k (a ++ b ∷ r) ≡ length a
 unfolding labelRun all
 run-of zero [] b r e h stop = refl
 run-of (suc k) [] b r e h stop = rw stop

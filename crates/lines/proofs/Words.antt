@@ -59,7 +59,8 @@ word-one l m el em e =
 
 all-parts : (k : ℕ) (l : List ℕ) → all inLabel l ≡ true → (all inLabel (take k l) ≡ true) × (all inLabel (drop k l) ≡ true)
 all-parts k l e =
-    and-cases (all inLabel (take k l)) (all inLabel (drop k l)) (sym (all-join inLabel (take k l) (drop k l)) ∙ ap (all inLabel) (take-append-drop k l) ∙ e)
+    let both = sym (all-join inLabel (take k l) (drop k l)) ∙ ap (all inLabel) (take-append-drop k l) ∙ e in
+    and-cases (all inLabel (take k l)) (all inLabel (drop k l)) both
 
 pub words-differ : (l m : List ℕ) → isLabel l ≡ true → isLabel m ≡ true → firstWord l ≡ firstWord m → secondWord l ≡ secondWord m → l ≡ m
 words-differ l m el em first second =

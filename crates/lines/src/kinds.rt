@@ -1,8 +1,9 @@
 // The table of the 256 byte kinds. 01: "upper, lower, digit, mark, tab, line feed, other".
 ghost use mathlib.Core.Path.{_≡_};
+ghost use Prim.Native.Nat.{_<_};
 ghost use Rattle.lines.specs.Bytes.{kindOf};
 
-// upper 0, lower 1, digit 2, mark 3, tab 4, line feed 5, other 6
+// upper 0, lower 1, digit 2, mark 3, tab 4, line feed 5, other 6; a byte is named where a run begins or ends
 const KINDS: [u8; 256] = [
     6,
     6,
@@ -13,8 +14,8 @@ const KINDS: [u8; 256] = [
     6,
     6,
     6,
-    4,
-    5,
+    4, // tab
+    5, // line feed
     6,
     6,
     6,
@@ -49,9 +50,10 @@ const KINDS: [u8; 256] = [
     6,
     6,
     6,
-    3,
-    3,
+    3, // -
+    3, // .
     6,
+    2, // 0
     2,
     2,
     2,
@@ -61,14 +63,14 @@ const KINDS: [u8; 256] = [
     2,
     2,
     2,
-    2,
+    6, // :
     6,
     6,
     6,
     6,
     6,
     6,
-    6,
+    0, // A
     0,
     0,
     0,
@@ -94,40 +96,39 @@ const KINDS: [u8; 256] = [
     0,
     0,
     0,
-    0,
-    6,
-    6,
+    6, // [
     6,
     6,
-    3,
     6,
-    1,
-    1,
-    1,
-    1,
-    1,
-    1,
-    1,
-    1,
-    1,
-    1,
-    1,
-    1,
-    1,
-    1,
-    1,
-    1,
-    1,
-    1,
-    1,
-    1,
-    1,
-    1,
-    1,
-    1,
-    1,
-    1,
+    3, // _
     6,
+    1, // a
+    1,
+    1,
+    1,
+    1,
+    1,
+    1,
+    1,
+    1,
+    1,
+    1,
+    1,
+    1,
+    1,
+    1,
+    1,
+    1,
+    1,
+    1,
+    1,
+    1,
+    1,
+    1,
+    1,
+    1,
+    1,
+    6, // {
     6,
     6,
     6,
@@ -269,7 +270,7 @@ pub fn kind(byte: u8) -> u8
 }
 
 pub fn wide(byte: u8) -> usize
-    ensures { λ r. ⌜ r ≡ byte ⌝ }
+    ensures { λ r. ⌜ (r ≡ byte) × (r < 256) ⌝ }
 {
     byte as usize
 }

@@ -1,12 +1,12 @@
 -- Laws of chains: the empty ones, one pair more, and the way of a search along one. Where the search stands is 0 or one more than a number of the
 -- bucket, and what it has passed holds no such pair.
-use Prim.Native.Nat.{ℕ, zero, suc, _+_, _<_, _≤_}
+use Prim.Native.Nat.{ℕ, suc, _+_, _<_, _≤_}
 use mathlib.Core.Path.{_≡_, refl, sym, ap, _∙_}
 use mathlib.Core.Bool.{true, false}
 use mathlib.Core.List.{List}
 use mathlib.Core.Logic.{_⊎_, inl, inr, _≢_}
 use lib.Dec.{eqb}
-use lib.ListN.{length, getD, set, replicate, length-set}
+use lib.ListN.{length, getD, set, replicate, length-set, length-replicate}
 use lib.Seq.{getD-set-same, getD-set-other}
 use native.Mathlib.Nat.{mod-lt}
 use native.Mathlib.Numerals.{add-one}
@@ -14,7 +14,6 @@ use native.Mathlib.Omega.{arith}
 use borrow.Author.Tests.{eqb-true, eq-eqb, ne-eqb}
 use Rattle.graphs.proofs.Stamps.{zeroes-at}
 use Rattle.graphs.proofs.Tests.{and-cases, same?}
-use Rattle.pairs.specs.declared.Found.{Found}
 use Rattle.pairs.specs.declared.Found.the-variants.{At, Nothing}
 use Rattle.pairs.specs.Pairs.{lastWith, isPair, foundAt, found, buckets, bucketOf, inBucket, Chain}
 use Rattle.pairs.proofs.Last.{last-hit, last-miss, last-le, last-at, last-ext, last-skip}
@@ -24,15 +23,15 @@ unfolding bucketOf
 bucket-low a b = mod-lt _ (omega arith)
 
 -- no pair yet
-pub chain-none : (first second head next : List ℕ) → length head ≡ buckets → head ≡ replicate (length head) 0 → Chain first second head next 0
+pub chain-none : (first second head next : List ℕ) → head ≡ replicate buckets 0 → Chain first second head next 0
 unfolding lastWith
-chain-none first second head next long zeroes =
+chain-none first second head next zeroes =
     record {
-      heads = long;
+      heads = ap length zeroes ∙ length-replicate {A = ℕ} buckets 0;
       in-first = omega arith;
       in-second = omega arith;
       in-next = omega arith;
-      starts = λ h k. ap (λ l. getD l h 0) zeroes ∙ zeroes-at (length head) h;
+      starts = λ h k. ap (λ l. getD l h 0) zeroes ∙ zeroes-at buckets h;
       goes = λ i k. absurd (omega arith);
     }
 
@@ -117,8 +116,8 @@ module _ (first second : List ℕ) (a b : ℕ) where
 
     pub way-next : (j i : ℕ) → Way first second a b n j → j ≡ suc i → isPair first second a b i ≡ false → Way first second a b n (getD next i 0)
     way-next j i w e miss =
-        rw (next-is j i w e)
-        (way-from n i (omega (arith, w .low)) (sym (last-miss (isPair first second a b) i miss) ∙ ap (lastWith (isPair first second a b)) (sym e) ∙ w .same))
+        let passed = sym (last-miss (isPair first second a b) i miss) ∙ ap (lastWith (isPair first second a b)) (sym e) ∙ w .same in
+        rw (next-is j i w e) (way-from n i (omega (arith, w .low)) passed)
 
     pub way-less : (j i : ℕ) → Way first second a b n j → j ≡ suc i → getD next i 0 < j
     way-less j i w e = omega (arith, next-is j i w e, last-le (inBucket first second (bucketOf a b)) i)
@@ -126,10 +125,9 @@ module _ (first second : List ℕ) (a b : ℕ) where
   pub way-found : (n j i : ℕ) → Way first second a b n j → j ≡ suc i → isPair first second a b i ≡ true → At i ≡ found (isPair first second a b) n
   unfolding found
   way-found n j i w e hit =
-      let is : lastWith (isPair first second a b) n ≡ suc i = sym (w .same) ∙ ap (lastWith (isPair first second a b)) e ∙ last-hit (isPair first second a b) i hit in
-      ap foundAt (sym is)
+      ap foundAt (sym (last-hit (isPair first second a b) i hit) ∙ ap (lastWith (isPair first second a b)) (sym e) ∙ w .same)
 
   pub way-end : (n j : ℕ) → Way first second a b n j → j ≡ 0 → Nothing ≡ found (isPair first second a b) n
   unfolding found lastWith
   way-end n j w e =
-      let is : lastWith (isPair first second a b) n ≡ 0 = sym (w .same) ∙ ap (lastWith (isPair first second a b)) e in ap foundAt (sym is)
+      ap foundAt (ap (lastWith (isPair first second a b)) (sym e) ∙ w .same)

@@ -1,15 +1,13 @@
 -- Laws of `lastWith` and `found`, the last number below n that passes a test: what it is, and that a search through the numbers that pass a wider
 -- test loses nothing.
 use Prim.Native.Nat.{ℕ, zero, suc, _<_, _≤_}
-use mathlib.Core.Path.{_≡_, refl, sym, _∙_}
+use mathlib.Core.Path.{_≡_, refl}
 use mathlib.Core.Bool.{Bool, true, false, cond}
-use mathlib.Core.List.{List}
 use mathlib.Core.Logic.{_⊎_, inl, inr, _≢_}
 use native.Mathlib.Omega.{arith}
 use Rattle.graphs.specs.Lists.{any, tab}
 use Rattle.graphs.proofs.Tests.{either, clash, not-both, same?}
 use Rattle.graphs.proofs.Tab.{any-tab-none, any-tab-some}
-use Rattle.pairs.specs.declared.Found.{Found}
 use Rattle.pairs.specs.declared.Found.the-variants.{At, Nothing}
 use Rattle.pairs.specs.Pairs.{lastWith, foundAt, found}
 

@@ -6,8 +6,7 @@ use words::is_pair;
 use words::narrow;
 use words::wide;
 ghost use mathlib.Core.Path.{_≡_};
-ghost use mathlib.Core.List.{List};
-ghost use Prim.Native.Nat.{_+_, _≤_, _<_};
+ghost use Prim.Native.Nat.{_+_, _<_};
 ghost use lib.ListN.{length, getD, set};
 ghost use Rattle.pairs.specs.Pairs.{isPair, found, bucketOf, buckets, Chain};
 

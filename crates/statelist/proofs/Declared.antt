@@ -19,6 +19,7 @@ use Rattle.lines.specs.Found.{firstWord, secondWord, labelOf, firstLine, ended,
 use Rattle.pairs.specs.declared.Found.{Found}
 use Rattle.pairs.specs.declared.Found.the-variants.{At, Nothing}
 use Rattle.pairs.specs.Pairs.{isPair, found, bucketOf, Chain}
+use Rattle.lines.proofs.Labels.{label-long}
 use Rattle.lines.proofs.Pieces.{ended-inside}
 use Rattle.lines.proofs.Records.{state-label, state-place}
 use Rattle.statelist.specs.declared.Reading.{Reading}
@@ -38,6 +39,15 @@ blank-set l n k v b h i low = getD-set-other l k i v 0 (λ e. omega arith) ∙ b
 pub states-long : (text flags places : List ℕ) (n : ℕ) → length (statesIn text flags places n) ≡ n
 unfolding statesIn
 states-long text flags places n = tab-long 0 n _
+
+-- the label of a state that was found is short
+pub label-short : (left : List ℕ) (at : ℕ) (l : Label) (flag after : ℕ) → StateHere left at l flag after → l .len ≤ 16
+unfolding labelOf
+label-short left at l flag after here = rw (here .label-is) (label-long _ (state-label _ (here .is)))
+
+-- the next line starts further on
+pub state-past : (left : List ℕ) (at : ℕ) (l : Label) (flag after : ℕ) → StateHere left at l flag after → at < after
+state-past left at l flag after here = omega (arith, here .next-is)
 
 pub declared-none : (text : List ℕ) (held f p : ℕ) (first second head next : List ℕ) → Chain first second head next 0
     → Declared text held (zeros f) (zeros p) first second head next 0 0
@@ -101,27 +111,27 @@ module _ (text : List ℕ) (held : ℕ) (flags places first second head next : L
 
       pub declared-more : n < held → held ≤ length flags → 2 * held ≤ length places → held ≤ length first → held ≤ length second → held ≤ length next
           → Declared text held (set flags n flag) (set (set places (2 * n) (at + 2)) (2 * n + 1) (l .len)) (set first n (l .first)) (set second n (l .second))
-            (set head (bucketOf (l .first) (l .second)) (n + 1)) (set next n (getD head (bucketOf (l .first) (l .second)) 0)) after (n + 1)
+          (set head (bucketOf (l .first) (l .second)) (n + 1)) (set next n (getD head (bucketOf (l .first) (l .second)) 0)) after (n + 1)
       unfolding labelOf
       declared-more h in-flags in-places in-first in-second in-next =
           rw (here .label-is, here .flag-is)
           (record {
             same = λ t.
-              rw (states-more text flags places n (at + 2) (length label) (flagOf line) room (omega arith), stands)
-              (sym
-              (state-more (roomFor held t) text at states l flag after here unknown
-              (rw (states-long text flags places n) h)) ∙ d .same t);
+                rw (states-more text flags places n (at + 2) (length label) (flagOf line) room (omega arith), stands)
+                (sym
+                (state-more (roomFor held t) text at states l flag after here unknown
+                (rw (states-long text flags places n) h)) ∙ d .same t);
             index =
-              index-more text flags places n (at + 2) (length label) (flagOf line) room first second head next label (d .index)
-              (omega arith) (omega arith) (omega arith) is-label stands refl
-              (asked-not text flags places first second head next n (d .index) label is-label none′);
+                index-more text flags places n (at + 2) (length label) (flagOf line) room first second head next label (d .index)
+                (omega arith) (omega arith) (omega arith) is-label stands refl
+                (asked-not text flags places first second head next n (d .index) label is-label none′);
             few = omega arith;
             in-text = let i = ended-inside (drop at text) (here .whole) in omega (arith, length-drop at text, here .next-is, d .in-text);
             flags-blank = subst (Blank (set flags n (flagOf line))) (omega arith) (blank-set flags n n (flagOf line) (d .flags-blank) (omega arith));
             places-blank =
-              subst (Blank (set (set places (2 * n) (at + 2)) (2 * n + 1) (length label))) (omega arith)
-              (blank-set (set places (2 * n) (at + 2)) (suc (2 * n)) (2 * n + 1) (length label)
-              (blank-set places (2 * n) (2 * n) (at + 2) (d .places-blank) (omega arith)) (omega arith));
+                subst (Blank (set (set places (2 * n) (at + 2)) (2 * n + 1) (length label))) (omega arith)
+                (blank-set (set places (2 * n) (at + 2)) (suc (2 * n)) (2 * n + 1) (length label)
+                (blank-set places (2 * n) (2 * n) (at + 2) (d .places-blank) (omega arith)) (omega arith));
           })
         where
           line : List ℕ

@@ -21,19 +21,8 @@ use Rattle.statelist.specs.Labels.{labelAt, comes}
 use Rattle.statelist.specs.Loops.{stateAt, statesIn, transitionsIn, from-here, Index, Blank, roomFor, Declared, Listed, Fills}
 use Rattle.statelist.proofs.Here.{nil-none, nil-some, end-here}
 use Rattle.statelist.proofs.Declared.{states-long}
-use Rattle.statelist.proofs.Listed.{transitions-long}
-
--- a list whose words from n on are 0 is its first n words, padded
-pub blank-padded : (l : List ℕ) (n : ℕ) → n ≤ length l → Blank l n → l ≡ padded (length l) (take n l)
-unfolding padded
-blank-padded l n h b =
-    let long = length-take-le n l h in
-    sym (take-append-drop n l) ∙ ap (λ r. take n l ++ r) (rest ∙ ap zeros (ap (λ k. length l - k) (sym long)))
-  where
-    rest : drop n l ≡ zeros (length l - n)
-    rest =
-        ext-getD 0 (drop n l) (zeros (length l - n)) (length-drop n l ∙ sym (length-replicate (length l - n) 0))
-        (λ i k. getD-drop n l i 0 ∙ b (n + i) (omega arith) ∙ sym (zeroes-at (length l - n) i))
+use Rattle.statelist.proofs.Zeros.{blank-padded}
+use Rattle.statelist.proofs.Counts.{transitions-long}
 
 flags-join : (a b : List State) → flagsOf (a ++ b) ≡ flagsOf a ++ flagsOf b
 unfolding flagsOf
@@ -68,9 +57,16 @@ module _ (text flags places : List ℕ) where
   places-in (suc n) h long =
       let two : 2 * suc n ≡ suc (suc (2 * n)) = omega arith in
       let one : suc (2 * n) ≡ 2 * n + 1 = omega arith in
-      rw (two, last-state n, places-join (statesIn text flags places n) (stateAt text flags places n ∷ []),
-        places-in n (omega arith) (λ i k. long i (omega arith)), long n (omega arith),
-        take-suc places (suc (2 * n)) 0 (omega arith), take-suc places (2 * n) 0 (omega arith), one)
+      rw (
+        two,
+        last-state n,
+        places-join (statesIn text flags places n) (stateAt text flags places n ∷ []),
+        places-in n (omega arith) (λ i k. long i (omega arith)),
+        long n (omega arith),
+        take-suc places (suc (2 * n)) 0 (omega arith),
+        take-suc places (2 * n) 0 (omega arith),
+        one,
+      )
       (sym (append-assoc (take (2 * n) places) (getD places (2 * n) 0 ∷ []) (getD places (2 * n + 1) 0 ∷ [])))
 
 -- all lines were read: n states up to `start`, then e transitions up to the end
@@ -103,9 +99,9 @@ module _ (text : List ℕ) (held heldT : ℕ) (flags places first second head ne
   unfolding atEnd isNil
   ends-graph some offsets targets in-flags in-places offsets-are targets-are =
       let flags-are : flags ≡ padded (length flags) (flagsOf states) =
-          blank-padded flags n in-flags (d .flags-blank) ∙ ap (padded (length flags)) (sym (flags-in text flags places n in-flags)) in
+      blank-padded flags n in-flags (d .flags-blank) ∙ ap (padded (length flags)) (sym (flags-in text flags places n in-flags)) in
       let places-are : places ≡ padded (length places) (placesOf states) =
-          blank-padded places (2 * n) in-places (d .places-blank) ∙ ap (padded (length places)) (sym (places-in text flags places n in-places (d .index .lengths))) in
+      blank-padded places (2 * n) in-places (d .places-blank) ∙ ap (padded (length places)) (sym (places-in text flags places n in-places (d .index .lengths))) in
       let means : from-here (roomFor held heldT) text 0 [] [] ≡ reads all-seen = ends ∙ rw (nil-some states (omega (arith, states-long text flags places n))) in
       subst (Fills offsets targets flags places (Graph n e)) (sym means)
       (rw (states-long text flags places n, transitions-long from to e) cc)

@@ -15,18 +15,10 @@ use Rattle.graphs.proofs.Same.{all-at}
 use Rattle.graphs.proofs.Words.{IsGraph, are-words}
 use Rattle.statelist.specs.Text.{State, Transition, Seen, reads, meaning}
 use Rattle.statelist.specs.Lists.{zeros, padded, placesOf, flagsOf, targetsOf, offsetsOf, roomsOf}
+use Rattle.statelist.proofs.Zeros.{padded-take, padded-long}
 use Rattle.statelist.proofs.Targets.{targets-total, targets-mono, targets-below, offset-at, offsets-long, successors-are}
 use Rattle.statelist.proofs.Good.{absent, Good}
 use Rattle.statelist.proofs.Meaning.{meaning-good}
-
--- a list with zeros after it
-pub padded-take : (k n : ℕ) (l : List ℕ) → length l ≡ n → take n (padded k l) ≡ l
-unfolding padded
-padded-take k n l e = take-at l (zeros (k - length l)) n e
-
-pub padded-long : (k : ℕ) (l : List ℕ) → length l ≤ k → length (padded k l) ≡ k
-unfolding padded
-padded-long k l h = simp (length-append, length-replicate) (omega arith)
 
 pub flags-long : (states : List State) → length (flagsOf states) ≡ length states
 unfolding flagsOf

@@ -24,6 +24,12 @@ use Rattle.statelist.specs.Text as text
 use Rattle.statelist.specs.Text.{Rooms, Seen, Meaning, reads, refused, isNil, declared, transitionOf, stood, withState, withTransition, stateLine, transitionLine, oneLine, thenOn, atEnd, readLines}
 use Rattle.statelist.specs.Loops.{from-here}
 
+-- a byte that is not 0 stands inside the text
+pub byte-inside : (l : List ℕ) (i x : ℕ) → 0 < x → getD l i 0 ≡ x → i < length l
+byte-inside [] i x low e = absurd (omega arith)
+byte-inside (b ∷ l) zero x low e = omega arith
+byte-inside (b ∷ l) (suc i) x low e = let h = byte-inside l i x low e in omega arith
+
 -- whether a list is empty, by its length
 module _ {ℓ} {A : Type ℓ} where
   pub nil-none : (l : List A) → length l ≡ 0 → isNil l ≡ true
@@ -86,9 +92,9 @@ pub transition-none : (left : List ℕ) (at : ℕ) → transitionFound at left �
 unfolding transitionFound
 transition-none left at e w =
     not-both (λ b.
-      let line = firstLine left in
-      let e′ : Transition (labelOf (field 1 line)) (labelOf (field 2 line)) (pastLine at line) ≡ NoTransition = rw (w, b) at e in
-      let z : _≡_ {A = ℕ} 0 1 = cc in omega arith)
+    let line = firstLine left in
+    let e′ : Transition (labelOf (field 1 line)) (labelOf (field 2 line)) (pastLine at line) ≡ NoTransition = rw (w, b) at e in
+    let z : _≡_ {A = ℕ} 0 1 = cc in omega arith)
 
 -- a line that is refused ends the reading; after one that is read, the rest is read
 abbrev after : Rooms → List ℕ → Seen → Meaning
@@ -125,7 +131,7 @@ module _ (rooms : Rooms) (bytes : List ℕ) (at : ℕ) (states : List text.State
   pub read-here : (states′ : List text.State) (transitions′ : List text.Transition) (next : ℕ)
       → ended left ≡ true → next ≡ pastLine at (firstLine left)
       → oneLine rooms (firstLine left) seen
-        ≡ reads (record { line = suc (length states′ + length transitions′); at = next; states = states′; transitions = transitions′ })
+      ≡ reads (record { line = suc (length states′ + length transitions′); at = next; states = states′; transitions = transitions′ })
       → from-here rooms bytes at states transitions ≡ from-here rooms bytes next states′ transitions′
   unfolding from-here
   read-here states′ transitions′ next w q e =
@@ -174,7 +180,7 @@ module _ (rooms : Rooms) (bytes : List ℕ) (at : ℕ) (states : List text.State
 
     pub state-more : declared (field 1 here) states ≡ false → length states < rooms .for-states
         → from-here rooms bytes at states []
-          ≡ from-here rooms bytes next (states ++ (record { label = field 1 here; start = at + 2; flag = flagOf here } ∷ [])) []
+        ≡ from-here rooms bytes next (states ++ (record { label = field 1 here; start = at + 2; flag = flagOf here } ∷ [])) []
     unfolding oneLine stateLine withState isNil
     state-more d h =
         let state : text.State = record { label = field 1 here; start = at + 2; flag = flagOf here } in

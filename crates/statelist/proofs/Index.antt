@@ -75,9 +75,9 @@ module _ (text flags places first second head next : List ℕ) (n : ℕ) (x : In
       let is-i = asked-label i (at .0) (at .1) in
       number-from l (stateAt text flags places) 0 n i (at .0) (rw (zero-add i) is-i)
       (λ j b e.
-        let is-j : labelAt text places j ≡ l = rw (zero-add j) at e in
-        let one = x .differ j i (omega (arith, at .0)) (at .0) (is-j ∙ sym is-i) in
-        omega arith)
+      let is-j : labelAt text places j ≡ l = rw (zero-add j) at e in
+      let one = x .differ j i (omega (arith, at .0)) (at .0) (is-j ∙ sym is-i) in
+      omega arith)
 
 pub index-none : (text places first second head next : List ℕ) → Chain first second head next 0 → Index text places first second head next 0
 index-none text places first second head next c =
@@ -121,14 +121,14 @@ module _ (text flags places : List ℕ) (n start len flag : ℕ) (room : 2 * n +
   unfolding statesIn stateAt
   states-more in-flags =
       let old : (i : ℕ) → i < n → stateAt text (set flags n flag) places′ i ≡ stateAt text flags places i =
-          λ i h. rw (label-old i h, other-place (2 * i) (λ e. omega arith) (λ e. omega arith), getD-set-other flags n i flag 0 (λ e. omega arith)) in
+      λ i h. rw (label-old i h, other-place (2 * i) (λ e. omega arith) (λ e. omega arith), getD-set-other flags n i flag 0 (λ e. omega arith)) in
       rw (add-one n, tab-more 0 n (stateAt text (set flags n flag) places′), tab-ext n _ _ old, zero-add n, label-new, start-new, getD-set-same flags n flag 0 in-flags)
 
   pub index-more : (first second head next : List ℕ) (l : List ℕ) → Index text places first second head next n
       → n < length first → n < length second → n < length next → isLabel l ≡ true → take len (drop start text) ≡ l → length l ≡ len
       → ((i : ℕ) → i < n → labelAt text places i ≢ l)
       → Index text places′ (set first n (firstWord l)) (set second n (secondWord l)) (set head (bucketOf (firstWord l) (secondWord l)) (n + 1))
-        (set next n (getD head (bucketOf (firstWord l) (secondWord l)) 0)) (n + 1)
+      (set next n (getD head (bucketOf (firstWord l) (secondWord l)) 0)) (n + 1)
   index-more first second head next l x in-first in-second in-next is there long new =
       record {
         chain = chain-more first second n (firstWord l) (secondWord l) head next (x .chain) in-first in-second in-next;

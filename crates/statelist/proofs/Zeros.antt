@@ -1,18 +1,48 @@
--- Laws of lists of zeros: one zero more, stored by a loop that goes up.
-use Prim.Native.Nat.{ℕ, suc, _+_, _<_, _≤_}
+-- Laws of lists of zeros, and of lists with zeros behind: clearing a list by a loop that goes up, and what a padded list is.
+use Prim.Native.Nat.{ℕ, suc, _+_, _-_, _<_, _≤_}
 use mathlib.Core.Path.{_≡_, sym, ap, _∙_}
-use mathlib.Core.List.{List, []}
-use lib.ListN.{length, set, take, replicate-append-replicate}
-use lib.Seq.{take-suc-set, take-all}
+use mathlib.Core.List.{List, _++_}
+use mathlib.Core.Logic.{_⊎_, inl, inr}
+use lib.ListN.{length, getD, set, take, length-append, length-replicate, replicate-append-replicate, List·getD-append}
+use lib.Seq.{take-suc-set, take-all, take-at, getD-append-add, getD-take, length-take-le, ext-getD}
 use native.Mathlib.Omega.{arith}
 use native.Mathlib.Numerals.{add-one}
-use Rattle.statelist.specs.Lists.{zeros}
+use Rattle.graphs.proofs.Stamps.{zeroes-at}
+use Rattle.graphs.proofs.Tests.{below?}
+use Rattle.statelist.specs.Lists.{zeros, padded}
+use Rattle.statelist.specs.Loops.{Blank}
 
 pub cleared-more : (l : List ℕ) (i : ℕ) → i < length l → take i l ≡ zeros i → take (i + 1) (set l i 0) ≡ zeros (i + 1)
 cleared-more l i h e = rw (add-one, take-suc-set l i 0 h, e, replicate-append-replicate {A = ℕ} i 1 0, add-one)
 
 pub cleared-all : (l : List ℕ) (i k : ℕ) → length l ≤ i → i ≤ k → k ≡ length l → take i l ≡ zeros i → l ≡ zeros k
-cleared-all l i k h low q e = let i-is : i ≡ k = le-eq in sym (take-all i l h) ∙ e ∙ ap zeros i-is
+cleared-all l i k h low q e = let end : i ≡ k = omega arith in sym (take-all i l h) ∙ e ∙ ap zeros end
+
+pub padded-take : (k n : ℕ) (l : List ℕ) → length l ≡ n → take n (padded k l) ≡ l
+unfolding padded
+padded-take k n l e = take-at l (zeros (k - length l)) n e
+
+pub padded-long : (k : ℕ) (l : List ℕ) → length l ≤ k → length (padded k l) ≡ k
+unfolding padded
+padded-long k l h = simp (length-append, length-replicate) (omega arith)
+
+-- a list with the words of l in front and zeros behind them
+pub padded-is : (l m : List ℕ) → length l ≤ length m → ((v : ℕ) → v < length l → getD m v 0 ≡ getD l v 0)
+    → ((v : ℕ) → length l ≤ v → getD m v 0 ≡ 0) → m ≡ padded (length m) l
+unfolding padded
+padded-is l m h front behind =
+    ext-getD 0 m (l ++ zeros (length m - length l)) (simp (length-append, length-replicate) (omega arith)) (λ v k. go v (below? v (length l)))
   where
-    le-eq : i ≡ k
-    le-eq = omega arith
+    go : (v : ℕ) → (v < length l) ⊎ (length l ≤ v) → getD m v 0 ≡ getD (l ++ zeros (length m - length l)) v 0
+    go v (inl k) = front v k ∙ sym (List·getD-append l _ 0 v k)
+    go v (inr k) =
+        let rest = zeros (length m - length l) in
+        let at : v ≡ length l + (v - length l) = omega arith in
+        behind v k
+        ∙ sym (ap (λ i. getD (l ++ rest) i 0) at ∙ getD-append-add l rest (v - length l) 0 ∙ zeroes-at (length m - length l) (v - length l))
+
+-- a list whose words from n on are 0 is its first n words, padded
+pub blank-padded : (l : List ℕ) (n : ℕ) → n ≤ length l → Blank l n → l ≡ padded (length l) (take n l)
+blank-padded l n h b =
+    let long = length-take-le n l h in
+    padded-is (take n l) l (omega arith) (λ v k. sym (getD-take n l v 0 (omega arith))) (λ v k. b v (omega arith))

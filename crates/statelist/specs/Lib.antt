@@ -4,3 +4,4 @@ pub mod Text
 pub mod Lists
 pub mod Labels
 pub mod Loops
+pub mod Build

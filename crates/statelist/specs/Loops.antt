@@ -8,14 +8,22 @@ use mathlib.Core.Logic.{_≢_}
 use lib.ListN.{length, getD, drop}
 use Rattle.graphs.specs.Lists.{tab}
 use Rattle.lines.specs.Line.{pieces, isLabel}
-use Rattle.lines.specs.Found.{firstWord, secondWord}
-use Rattle.pairs.specs.Pairs.{Chain}
+use Rattle.lines.specs.Found.{firstWord, secondWord, stateFound, transitionFound}
+use Rattle.lines.specs.declared.Label.{Label}
+use Rattle.lines.specs.declared.StateLine.{StateLine}
+use Rattle.lines.specs.declared.TransitionLine.{TransitionLine}
+use Rattle.pairs.specs.declared.Found.{Found}
+use Rattle.pairs.specs.declared.Found.the-variants.{At, Nothing}
+use Rattle.pairs.specs.Pairs.{isPair, found, Chain}
 use Rattle.statelist.specs.Text.{State, Transition, Rooms, Seen, Meaning, reads, refused, readLines}
 use Rattle.statelist.specs.Lists.{refusal, told, targetsFrom, filled}
 use Rattle.statelist.specs.Labels.{labelAt, comes}
 use Rattle.statelist.specs.declared.Reading.{Reading}
 use Rattle.statelist.specs.declared.went.Went.{Went}
 use Rattle.statelist.specs.declared.went.Went.the-variants.{On, Stop}
+use Rattle.statelist.specs.declared.states.NextState.{NextState}
+use Rattle.statelist.specs.declared.states.NextState.the-variants.{New, Bad}
+use Rattle.statelist.specs.declared.transitions.NextTransition.{NextTransition}
 
 -- the states that stand in the lists of flags and places, and the transitions in two lists of numbers
 unfoldable pub stateAt : (text flags places : List ℕ) → ℕ → State
@@ -24,11 +32,8 @@ stateAt text flags places i = record { label = labelAt text places i; start = ge
 unfoldable pub statesIn : (text flags places : List ℕ) → ℕ → List State
 statesIn text flags places n = tab 0 n (stateAt text flags places)
 
-unfoldable pub transitionAt : (from to : List ℕ) → ℕ → Transition
-transitionAt from to i = record { from = getD from i 0; to = getD to i 0 }
-
 unfoldable pub transitionsIn : (from to : List ℕ) → ℕ → List Transition
-transitionsIn from to e = tab 0 e (transitionAt from to)
+transitionsIn from to e = tab 0 e (λ i. record { from = getD from i 0; to = getD to i 0 })
 
 -- what the text means from a place on, once these states and transitions were read, a line each
 unfoldable pub from-here : Rooms → List ℕ → ℕ → List State → List Transition → Meaning
@@ -69,6 +74,17 @@ pub record Declared (text : List ℕ) (held : ℕ) (flags places first second he
   pub flags-blank : Blank flags n
   pub places-blank : Blank places (2 * n)
 
+-- what the S line at a place gives, whatever was read before it: a new state that there is room for, or a refusal
+pub record StateNew (text : List ℕ) (held : ℕ) (first second : List ℕ) (at n : ℕ) (label : Label) (flag after : ℕ) : Type 0 where
+  pub stands : stateFound at (drop at text) ≡ StateLine.State label flag after
+  pub new : found (isPair first second (label .first) (label .second)) n ≡ Nothing
+  pub room : n < held
+
+abbrev pub StateNext : (text : List ℕ) (held : ℕ) (first second head next : List ℕ) (at n : ℕ) → NextState → Type 0
+StateNext text held first second head next at n (New label flag after) = StateNew text held first second at n label flag after
+StateNext text held first second head next at n (Bad r) =
+    (flags places : List ℕ) (t : ℕ) → Declared text held flags places first second head next at n → Refused r (from-here (roomFor held t) text 0 [] [])
+
 -- what reading the S lines gives: the line that it went to is none of them
 abbrev pub StatesRead : (text : List ℕ) (held : ℕ) (flags places first second head next : List ℕ) → Went → Type 0
 StatesRead text held flags places first second head next (On at n) =
@@ -87,6 +103,23 @@ pub record Listed (text : List ℕ) (held n start : ℕ) (first second head next
   pub few : e ≤ held
   pub in-text : at ≤ length text
   pub letter : e ≡ 0 → getD text at 0 ≢ 83
+
+-- what the T line at a place gives: a new pair of states that there is room for, or a refusal
+pub record TransitionNew (text : List ℕ) (held n : ℕ) (first second from to : List ℕ) (at e i j after : ℕ) : Type 0 where
+  pub source : Label
+  pub target : Label
+  pub stands : transitionFound at (drop at text) ≡ TransitionLine.Transition source target after
+  pub source-is : found (isPair first second (source .first) (source .second)) n ≡ At i
+  pub target-is : found (isPair first second (target .first) (target .second)) n ≡ At j
+  pub new : found (isPair from to i j) e ≡ Nothing
+  pub room : e < held
+
+abbrev pub TransitionNext : (text : List ℕ) (held n : ℕ) (first second head next from to last prev : List ℕ) (at e : ℕ) → NextTransition → Type 0
+TransitionNext text held n first second head next from to last prev at e (NextTransition.New i j after) =
+    TransitionNew text held n first second from to at e i j after
+TransitionNext text held n first second head next from to last prev at e (NextTransition.Bad r) =
+    (start : ℕ) (offsets flags places : List ℕ) (h : ℕ) → Listed text held n start first second head next offsets from to last prev at e
+    → Index text places first second head next n → Refused r (from-here (roomFor h held) text start (statesIn text flags places n) [])
 
 -- what reading the T lines gives
 abbrev pub TransitionsRead : (text : List ℕ) (held n start : ℕ) (first second head next offsets from to last prev : List ℕ) → Went → Type 0

@@ -1,5 +1,8 @@
 // Reading state-list text.
+mod lists;
 mod rooms;
+mod states;
+mod transitions;
 mod went;
 
 pub enum Reading {

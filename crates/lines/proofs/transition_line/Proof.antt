@@ -6,7 +6,8 @@ use lib.ListN.{drop}
 use borrow.Author.Needs.{needs}
 use Rattle.graphs.proofs.Tests.{if-not, if-so}
 use Rattle.lines.specs.Found.{labelOf}
-use Rattle.lines.proofs.Found.{transition-no-front, transition-no-label, transition-no-feed, transition-is, front-far}
+use Rattle.lines.proofs.Found.{transition-no-front, transition-no-label, transition-no-feed, transition-is}
+use Rattle.lines.proofs.Front.{front-far}
 use Rattle.lines.proofs.Labels.{here-low}
 use Rattle.lines.proofs.transition_line.Statement.{statement}
 use Rattle.lines.proofs.transition_line.Tie as tie
@@ -21,47 +22,77 @@ enum-told : tie.Need-enum-told
 enum-told c = search needs
 
 returns : tie.Need-returns
-returns c = transition-no-front (c .before .before .before .before .args .text .now) (c .before .before .before .before .args .at) (sym (c .enum-told .given .1) ∙ c .before .before .front-at .ensures)
+returns c =
+    let start = c .before .before .before .before in
+    transition-no-front (start .args .text .now) (start .args .at) (sym (c .enum-told .given .1) ∙ c .before .before .front-at .ensures)
 
 label-at-requires : tie.Need-label-at-requires
-label-at-requires c κs = omega (arith, c .before .before .before .before .before .pre, front-far (c .before .before .before .before .before .args .text .now) (c .before .before .before .before .before .args .at) 84 _ (c .before .from .given .0 .1 .0) (omega arith) (sym (c .before .from .given .1) ∙ c .before .before .before .front-at .ensures))
+label-at-requires c κs =
+    let here = c .before in
+    let start = here .before .before .before .before in
+    let front = sym (here .from .given .1) ∙ here .before .before .front-at .ensures in
+    omega (arith, start .pre, front-far (start .args .text .now) (start .args .at) 84 _ (here .from .given .0 .1 .0) (omega arith) front)
 
 returns-2 : tie.Need-returns-2
 unfolding labelOf
-returns-2 c = transition-no-label (c .before .before .before .before .before .before .before .args .text .now) (c .before .before .before .before .before .before .before .args .at) _ _ (sym (c .before .before .before .from .given .1) ∙ c .before .before .before .before .before .front-at .ensures) (rw (c .before .label-at .ensures) at (c .if1 .taken))
+returns-2 c =
+    let here = c .before .before .before in
+    let start = here .before .before .before .before in
+    let front = sym (here .from .given .1) ∙ here .before .before .front-at .ensures in
+    transition-no-label (start .args .text .now) (start .args .at) _ _ front (rw (c .before .label-at .ensures) at (c .if1 .taken))
 
 add-byte-is : tie.Need-add-byte-is
 unfolding labelOf
 add-byte-is c =
-    let few : c .before .label-at .result .len ≤ 16 = rw (c .before .label-at .ensures) (here-low (drop (c .before .before .before .from .given .0 .1 .0) (c .before .before .before .before .before .before .before .args .text .now))) in
-    omega (arith, c .before .before .before .before .before .before .before .pre, front-far (c .before .before .before .before .before .before .before .args .text .now) (c .before .before .before .before .before .before .before .args .at) 84 _ (c .before .before .before .from .given .0 .1 .0) (omega arith) (sym (c .before .before .before .from .given .1) ∙ c .before .before .before .before .before .front-at .ensures))
+    let here = c .before .before .before in
+    let start = here .before .before .before .before in
+    let front = sym (here .from .given .1) ∙ here .before .before .front-at .ensures in
+    let few : c .before .label-at .result .len ≤ 16 =
+    rw (c .before .label-at .ensures) (here-low (drop (here .from .given .0 .1 .0) (start .args .text .now))) in
+    omega (arith, start .pre, front-far (start .args .text .now) (start .args .at) 84 _ (here .from .given .0 .1 .0) (omega arith) front)
 
 byte-is-requires : tie.Need-byte-is-requires
 byte-is-requires c κs = search needs
 
 returns-3 : tie.Need-returns-3
 unfolding labelOf
-returns-3 c = transition-no-feed (c .before .before .before .before .before .before .before .before .before .args .text .now) (c .before .before .before .before .before .before .before .before .before .args .at) _ _ (sym (c .before .before .before .before .before .from .given .1) ∙ c .before .before .before .before .before .before .before .front-at .ensures) (rw (c .before .before .before .label-at .ensures) at (if-not (c .before .byte-is .ensures) (c .if2 .taken)))
+returns-3 c =
+    let here = c .before .before .before .before .before in
+    let start = here .before .before .before .before in
+    let front = sym (here .from .given .1) ∙ here .before .before .front-at .ensures in
+    let feed = rw (c .before .before .before .label-at .ensures) at (if-not (c .before .byte-is .ensures) (c .if2 .taken)) in
+    transition-no-feed (start .args .text .now) (start .args .at) _ _ front feed
 
 add-t9 : tie.Need-add-t9
 unfolding labelOf
 add-t9 c =
-    let few : c .before .before .before .label-at .result .len ≤ 16 = rw (c .before .before .before .label-at .ensures) (here-low (drop (c .before .before .before .before .before .from .given .0 .1 .0) (c .before .before .before .before .before .before .before .before .before .args .text .now))) in
-    omega (arith, c .before .before .before .before .before .before .before .before .before .pre, front-far (c .before .before .before .before .before .before .before .before .before .args .text .now) (c .before .before .before .before .before .before .before .before .before .args .at) 84 _ (c .before .before .before .before .before .from .given .0 .1 .0) (omega arith) (sym (c .before .before .before .before .before .from .given .1) ∙ c .before .before .before .before .before .before .before .front-at .ensures))
+    let here = c .before .before .before .before .before in
+    let start = here .before .before .before .before in
+    let front = sym (here .from .given .1) ∙ here .before .before .front-at .ensures in
+    let few : c .before .before .before .label-at .result .len ≤ 16 =
+    rw (c .before .before .before .label-at .ensures) (here-low (drop (here .from .given .0 .1 .0) (start .args .text .now))) in
+    omega (arith, start .pre, front-far (start .args .text .now) (start .args .at) 84 _ (here .from .given .0 .1 .0) (omega arith) front)
 
 add-t11 : tie.Need-add-t11
 unfolding labelOf
 add-t11 c =
-    let few : c .before .before .before .label-at .result .len ≤ 16 = rw (c .before .before .before .label-at .ensures) (here-low (drop (c .before .before .before .before .before .from .given .0 .1 .0) (c .before .before .before .before .before .before .before .before .before .args .text .now))) in
-    omega (arith, c .before .before .before .before .before .before .before .before .before .pre, front-far (c .before .before .before .before .before .before .before .before .before .args .text .now) (c .before .before .before .before .before .before .before .before .before .args .at) 84 _ (c .before .before .before .before .before .from .given .0 .1 .0) (omega arith) (sym (c .before .before .before .before .before .from .given .1) ∙ c .before .before .before .before .before .before .before .front-at .ensures))
+    let here = c .before .before .before .before .before in
+    let start = here .before .before .before .before in
+    let front = sym (here .from .given .1) ∙ here .before .before .front-at .ensures in
+    let few : c .before .before .before .label-at .result .len ≤ 16 =
+    rw (c .before .before .before .label-at .ensures) (here-low (drop (here .from .given .0 .1 .0) (start .args .text .now))) in
+    omega (arith, start .pre, front-far (start .args .text .now) (start .args .at) 84 _ (here .from .given .0 .1 .0) (omega arith) front)
 
 returns-4 : tie.Need-returns-4
 unfolding labelOf
 returns-4 c =
-    let some = rw (c .before .before .before .label-at .ensures) at (c .before .before .if1 .left) in
-    rw (c .before .before .before .label-at .ensures)
-    (transition-is (c .before .before .before .before .before .before .before .before .before .args .text .now) (c .before .before .before .before .before .before .before .before .before .args .at) _ _ (sym (c .before .before .before .before .before .from .given .1) ∙ c .before .before .before .before .before .before .before .front-at .ensures) (omega arith)
-    (rw (c .before .before .before .label-at .ensures) at (if-so (c .before .byte-is .ensures) (c .if2 .left))))
+    let here = c .before .before .before .before .before in
+    let start = here .before .before .before .before in
+    let front = sym (here .from .given .1) ∙ here .before .before .front-at .ensures in
+    let told = c .before .before .before .label-at .ensures in
+    let some = rw told at (c .before .before .if1 .left) in
+    let feed = rw told at (if-so (c .before .byte-is .ensures) (c .if2 .left)) in
+    rw told (transition-is (start .args .text .now) (start .args .at) _ _ front (omega arith) feed)
 
 pub transition-line-spec : {M : Type 1} → statement M
 transition-line-spec =

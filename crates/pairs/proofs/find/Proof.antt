@@ -63,8 +63,9 @@ loop-again : tie.Need-loop-again Inv-loop μ-loop
 loop-again c =
     let head = c .before .before .before .before .before in
     let start = head .before .before .before .before .before .before .before .before in
+    let miss = sym (c .before .before .before .is-pair .ensures) ∙ c .before .before .if1 .left in
     rw (c .wide2 .ensures)
-    (way-next _ _ (start .args .a) (start .args .b) _ _ _ (start .pre) (head .loop .j) (head .loop .j - 1) (head .loop .inv) (omega arith) (sym (c .before .before .before .is-pair .ensures) ∙ c .before .before .if1 .left))
+    (way-next _ _ (start .args .a) (start .args .b) _ _ _ (start .pre) (head .loop .j) (head .loop .j - 1) (head .loop .inv) (omega arith) miss)
 
 returns-2 : tie.Need-returns-2 Inv-loop μ-loop
 returns-2 c = way-end _ _ _ _ _ (c .before .loop .j) (c .before .loop .inv) (omega arith)

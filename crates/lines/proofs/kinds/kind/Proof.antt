@@ -14,7 +14,7 @@ array-read-result c = search needs
 
 returns : tie.Need-returns
 unfolding table
-returns c = table-kind (c .wide .result) (search needs) ∙ ap kindOf (c .wide .ensures)
+returns c = table-kind (c .wide .result) (c .wide .ensures .1) ∙ ap kindOf (c .wide .ensures .0)
 
 pub kind-spec : {M : Type 1} → statement M
 kind-spec = tie.close (tie.spec wide-requires array-read-result returns)

@@ -23,7 +23,9 @@ byte-is-requires-2 : tie.Need-byte-is-requires-2
 byte-is-requires-2 c κs = search needs
 
 returns-2 : tie.Need-returns-2
-returns-2 c = front-no-tab (c .before .before .before .before .before .args .text .now) _ _ (if-not (c .before .byte-is2 .ensures) (c .if2 .taken))
+returns-2 c =
+    let start = c .before .before .before .before .before in
+    front-no-tab (start .args .text .now) _ _ (if-not (c .before .byte-is2 .ensures) (c .if2 .taken))
 
 add-label-at : tie.Need-add-label-at
 add-label-at c = search needs
@@ -33,7 +35,9 @@ label-at-requires c κs = search needs
 
 returns-3 : tie.Need-returns-3
 unfolding labelOf
-returns-3 c = front-no-label (c .before .before .before .before .before .before .before .args .text .now) _ _ (rw (c .before .label-at .ensures) at (c .if3 .taken))
+returns-3 c =
+    let start = c .before .before .before .before .before .before .before in
+    front-no-label (start .args .text .now) _ _ (rw (c .before .label-at .ensures) at (c .if3 .taken))
 
 add-byte-is-2 : tie.Need-add-byte-is-2
 add-byte-is-2 c = search needs
@@ -41,15 +45,20 @@ add-byte-is-2 c = search needs
 add-byte-is-3 : tie.Need-add-byte-is-3
 unfolding labelOf
 add-byte-is-3 c =
-    let few : c .before .label-at .result .len ≤ 16 = rw (c .before .label-at .ensures) (here-low (drop (c .before .before .before .before .before .before .before .args .at + 2) (c .before .before .before .before .before .before .before .args .text .now))) in
-    omega (arith, c .before .before .before .before .before .before .before .pre .0)
+    let told = c .before in
+    let start = told .before .before .before .before .before .before in
+    let few : told .label-at .result .len ≤ 16 = rw (told .label-at .ensures) (here-low (drop (start .args .at + 2) (start .args .text .now))) in
+    omega (arith, start .pre .0)
 
 byte-is-requires-3 : tie.Need-byte-is-requires-3
 byte-is-requires-3 c κs = search needs
 
 returns-4 : tie.Need-returns-4
 unfolding labelOf
-returns-4 c = front-no-end (c .before .before .before .before .before .before .before .before .before .args .text .now) _ _ (rw (c .before .before .before .label-at .ensures) at (if-not (c .before .byte-is3 .ensures) (c .if4 .taken)))
+returns-4 c =
+    let told = c .before .before .before in
+    let start = told .before .before .before .before .before .before in
+    front-no-end (start .args .text .now) _ _ (rw (told .label-at .ensures) at (if-not (c .before .byte-is3 .ensures) (c .if4 .taken)))
 
 add-t8 : tie.Need-add-t8
 add-t8 c = search needs
@@ -57,16 +66,23 @@ add-t8 c = search needs
 add-t9 : tie.Need-add-t9
 unfolding labelOf
 add-t9 c =
-    let few : c .before .before .before .label-at .result .len ≤ 16 = rw (c .before .before .before .label-at .ensures) (here-low (drop (c .before .before .before .before .before .before .before .before .before .args .at + 2) (c .before .before .before .before .before .before .before .before .before .args .text .now))) in
-    omega (arith, c .before .before .before .before .before .before .before .before .before .pre .0)
+    let told = c .before .before .before in
+    let start = told .before .before .before .before .before .before in
+    let few : told .label-at .result .len ≤ 16 = rw (told .label-at .ensures) (here-low (drop (start .args .at + 2) (start .args .text .now))) in
+    omega (arith, start .pre .0)
 
 returns-5 : tie.Need-returns-5
 unfolding labelOf
 returns-5 c =
-    let some = rw (c .before .before .before .label-at .ensures) at (c .before .before .if3 .left) in
-    rw (c .before .before .before .label-at .ensures)
-    (front-here (c .before .before .before .before .before .before .before .before .before .args .text .now) _ _ (if-so (c .before .before .before .before .before .before .before .byte-is .ensures) (c .before .before .before .before .before .before .if1 .left)) (if-so (c .before .before .before .before .before .byte-is2 .ensures) (c .before .before .before .before .if2 .left)) (omega arith)
-    (rw (c .before .before .before .label-at .ensures) at (if-so (c .before .byte-is3 .ensures) (c .if4 .left))))
+    let told = c .before .before .before in
+    let second = told .before in
+    let first = second .before .before in
+    let start = first .before .before .before in
+    let letter = if-so (first .before .byte-is .ensures) (first .if1 .left) in
+    let tab = if-so (second .before .byte-is2 .ensures) (second .if2 .left) in
+    let some = rw (told .label-at .ensures) at (c .before .before .if3 .left) in
+    let end = rw (told .label-at .ensures) at (if-so (c .before .byte-is3 .ensures) (c .if4 .left)) in
+    rw (told .label-at .ensures) (front-here (start .args .text .now) _ _ letter tab (omega arith) end)
 
 pub front-at-spec : {M : Type 1} → statement M
 front-at-spec =

@@ -28,15 +28,18 @@ part-at-requires-2 c κs = search needs
 add-t8 : tie.Need-add-t8
 unfolding partOf
 add-t8 c =
-    let low = run-low 8 (drop (c .before .before .before .before .before .args .at + 8) (c .before .before .before .before .before .args .text .now)) in
-    let few : c .before .part-at2 .result .len ≤ 8 = rw (c .before .part-at2 .ensures) low in
+    let start = c .before .before .before .before .before in
+    let few : c .before .part-at2 .result .len ≤ 8 =
+    rw (c .before .part-at2 .ensures) (run-low 8 (drop (start .args .at + 8) (start .args .text .now))) in
     omega arith
 
 returns-2 : tie.Need-returns-2
 unfolding partOf
 returns-2 c =
-    let full = rw (c .before .before .before .part-at .ensures) at (c .before .before .if1 .left) in
-    rw (c .before .before .before .part-at .ensures, c .before .part-at2 .ensures, ← drop-drop 8 (c .before .before .before .before .before .args .at) (c .before .before .before .before .before .args .text .now)) (label-of-two _ full)
+    let start = c .before .before .before .before .before in
+    let begin = c .before .before .before .part-at .ensures in
+    let full = rw begin at (c .before .before .if1 .left) in
+    rw (begin, c .before .part-at2 .ensures, ← drop-drop 8 (start .args .at) (start .args .text .now)) (label-of-two _ full)
 
 pub label-at-spec : {M : Type 1} → statement M
 label-at-spec =

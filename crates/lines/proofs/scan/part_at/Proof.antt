@@ -26,7 +26,9 @@ add-i : tie.Need-add-i Inv-loop μ-loop
 add-i c = search needs
 
 returns : tie.Need-returns Inv-loop μ-loop
-returns c = taken-all _ _ _ (c .before .before .loop .inv) (run-end 8 (c .before .before .loop .len) _ (simp length-drop (omega arith)))
+returns c =
+    let head = c .before .before in
+    taken-all _ _ _ (head .loop .inv) (run-end 8 (head .loop .len) _ (simp length-drop (omega arith)))
 
 shared-slice-read-byte : tie.Need-shared-slice-read-byte Inv-loop μ-loop
 shared-slice-read-byte c = search needs
@@ -37,18 +39,26 @@ kind-requires c κs = search needs
 returns-2 : tie.Need-returns-2 Inv-loop μ-loop
 unfolding inLabel
 returns-2 c =
-    let here = getD-drop (c .before .before .before .before .before .before .before .args .at) (c .before .before .before .before .before .before .before .args .text .now) (c .before .before .before .before .before .loop .len) 0 in
-    let ends : inLabel (getD (drop (c .before .before .before .before .before .before .before .args .at) (c .before .before .before .before .before .before .before .args .text .now)) (c .before .before .before .before .before .loop .len) 0) ≡ false = rw (here, ← c .before .kind .ensures) (le-ltb _ _ (c .if2 .taken)) in
-    taken-all _ _ _ (c .before .before .before .before .before .loop .inv) (run-stop 8 (c .before .before .before .before .before .loop .len) _ (c .before .before .before .before .loop-test .taken) (simp length-drop (omega arith)) ends)
+    let turn = c .before .before .before .before in
+    let head = turn .before in
+    let start = head .before .before in
+    let here = getD-drop (start .args .at) (start .args .text .now) (head .loop .len) 0 in
+    let ends : inLabel (getD (drop (start .args .at) (start .args .text .now)) (head .loop .len) 0) ≡ false =
+    rw (here, ← c .before .kind .ensures) (le-ltb _ _ (c .if2 .taken)) in
+    taken-all _ _ _ (head .loop .inv) (run-stop 8 (head .loop .len) _ (turn .loop-test .taken) (simp length-drop (omega arith)) ends)
 
 mul-word : tie.Need-mul-word Inv-loop μ-loop
-mul-word c = omega (arith, taken-fits _ _ _ (c .before .before .before .before .before .loop .inv) (c .before .before .before .before .loop-test .taken))
+mul-word c =
+    let turn = c .before .before .before .before in
+    omega (arith, taken-fits _ _ _ (turn .before .loop .inv) (turn .loop-test .taken))
 
 wide-requires : tie.Need-wide-requires Inv-loop μ-loop
 wide-requires c κs = search needs
 
 add-word : tie.Need-add-word Inv-loop μ-loop
-add-word c = omega (arith, taken-fits _ _ _ (c .before .before .before .before .before .before .loop .inv) (c .before .before .before .before .before .loop-test .taken), c .wide .ensures, c .before .before .before .shared-slice-known2 .given (c .before .before .before .before .before .before .before .before .args .at + c .before .before .before .before .before .before .loop .len))
+add-word c =
+    let turn = c .before .before .before .before .before in
+    omega (arith, taken-fits _ _ _ (turn .before .loop .inv) (turn .loop-test .taken), c .wide .ensures .1)
 
 add-len : tie.Need-add-len Inv-loop μ-loop
 add-len c = search needs
@@ -59,9 +69,14 @@ loop-less c = search needs
 loop-again : tie.Need-loop-again Inv-loop μ-loop
 unfolding inLabel
 loop-again c =
-    let here = getD-drop (c .before .before .before .before .before .before .before .before .args .at) (c .before .before .before .before .before .before .before .before .args .text .now) (c .before .before .before .before .before .before .loop .len) 0 in
-    rw (c .wide .ensures) (taken-more _ _ _ (c .before .before .before .before .before .before .loop .inv) _ (c .before .before .before .before .before .loop-test .taken) (simp length-drop (omega arith)) here (rw (← c .before .before .kind .ensures) (lt-ltb _ _ (c .before .if2 .left)))
-    (omega (arith, c .before .before .before .shared-slice-known2 .given (c .before .before .before .before .before .before .before .before .args .at + c .before .before .before .before .before .before .loop .len))))
+    let turn = c .before .before .before .before .before in
+    let head = turn .before in
+    let start = head .before .before in
+    let low = c .before .before .before .shared-slice-known2 .given (start .args .at + head .loop .len) in
+    let here = getD-drop (start .args .at) (start .args .text .now) (head .loop .len) 0 in
+    rw (c .wide .ensures .0)
+    (taken-more _ _ _ (head .loop .inv) _ (turn .loop-test .taken) (simp length-drop (omega arith)) here
+    (rw (← c .before .before .kind .ensures) (lt-ltb _ _ (c .before .if2 .left))) (omega arith))
 
 returns-3 : tie.Need-returns-3 Inv-loop μ-loop
 returns-3 c = taken-all _ _ _ (c .before .loop .inv) (run-full 8 (c .before .loop .len) _ (c .loop-test .left))

@@ -32,8 +32,7 @@ loop-less c = search needs
 
 loop-again : tie.Need-loop-again Inv-loop μ-loop
 loop-again c =
-    let here = c .before .loop in
-    (
+    let here = c .before .loop in (
       cleared-more (here .words) (here .i) (c .loop-test .taken) (here .inv .0),
       simp length-set (omega (arith, c .loop-test .taken)),
       simp length-set (here .inv .2),
