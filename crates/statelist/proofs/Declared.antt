@@ -18,7 +18,8 @@ use Rattle.lines.specs.Line.{pieces, field, isLabel, isState, isTransition, fla
 use Rattle.lines.specs.Found.{firstWord, secondWord, labelOf, firstLine, ended, stateFound}
 use Rattle.pairs.specs.declared.Found.{Found}
 use Rattle.pairs.specs.declared.Found.the-variants.{At, Nothing}
-use Rattle.pairs.specs.Pairs.{isPair, found, bucketOf, Chain}
+use Rattle.pairs.specs.Pairs.{isPair, found, buckets, bucketOf}
+use Rattle.pairs.proofs.Chain.{chain-none}
 use Rattle.lines.proofs.Labels.{label-long}
 use Rattle.lines.proofs.Pieces.{ended-inside}
 use Rattle.lines.proofs.Records.{state-label, state-place}
@@ -30,8 +31,8 @@ use Rattle.statelist.specs.Loops.{statesIn, from-here, Index, Blank, Ref
 use Rattle.statelist.proofs.Here.{StateHere, state-bad, state-twice, state-full, state-more}
 use Rattle.statelist.proofs.Index.{label-unknown, label-known, asked-not, index-none, places′, states-more, index-more}
 
-pub blank-zeros : (k n : ℕ) → Blank (zeros k) n
-blank-zeros k n i h = zeroes-at k i
+pub blank-zeros : (l : List ℕ) (n : ℕ) → l ≡ zeros (length l) → Blank l n
+blank-zeros l n e i h = ap (λ m. getD m i 0) e ∙ zeroes-at (length l) i
 
 pub blank-set : (l : List ℕ) (n k v : ℕ) → Blank l n → n ≤ k → Blank (set l k v) (suc k)
 blank-set l n k v b h i low = getD-set-other l k i v 0 (λ e. omega arith) ∙ b i (omega arith)
@@ -49,17 +50,18 @@ label-short left at l flag after here = rw (here .label-is) (label-long _ (state
 pub state-past : (left : List ℕ) (at : ℕ) (l : Label) (flag after : ℕ) → StateHere left at l flag after → at < after
 state-past left at l flag after here = omega (arith, here .next-is)
 
-pub declared-none : (text : List ℕ) (held f p : ℕ) (first second head next : List ℕ) → Chain first second head next 0
-    → Declared text held (zeros f) (zeros p) first second head next 0 0
+pub declared-none : (text : List ℕ) (held : ℕ) (flags places first second head next : List ℕ)
+    → flags ≡ zeros (length flags) → places ≡ zeros (length places) → head ≡ zeros buckets
+    → Declared text held flags places first second head next 0 0
 unfolding statesIn tab
-declared-none text held f p first second head next c =
+declared-none text held flags places first second head next flags-none places-none head-none =
     record {
       same = λ t. refl;
-      index = index-none text (zeros p) first second head next c;
+      index = index-none text places first second head next (chain-none first second head next head-none);
       few = omega arith;
       in-text = omega arith;
-      flags-blank = blank-zeros f 0;
-      places-blank = blank-zeros p (2 * 0);
+      flags-blank = blank-zeros flags 0 flags-none;
+      places-blank = blank-zeros places (2 * 0) places-none;
     }
 
 module _ (text : List ℕ) (held : ℕ) (flags places first second head next : List ℕ) (at n : ℕ)

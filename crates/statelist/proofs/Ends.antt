@@ -3,12 +3,13 @@ use Prim.Native.Nat.{ℕ, zero, suc, _+_, _-_, _*_, _<_, _≤_}
 use mathlib.Core.Path.{_≡_, refl, sym, ap, _∙_, subst}
 use mathlib.Core.Bool.{Bool, true, false}
 use mathlib.Core.List.{List, [], _∷_, _++_, map, append-assoc}
-use mathlib.Core.Logic.{_≢_}
+use mathlib.Core.Logic.{_⊎_, inl, inr}
 use lib.ListN.{length, getD, take, drop, replicate, length-take, length-drop, take-append-drop, length-replicate, getD-replicate}
 use lib.Seq.{ext-getD, getD-drop, take-suc, length-take-le}
 use native.Mathlib.Nat.{zero-add}
 use native.Mathlib.Omega.{arith}
 use Rattle.graphs.specs.Lists.{tab}
+use Rattle.graphs.specs.Words.{most-states, most-transitions}
 use Rattle.graphs.proofs.Tab.{tab-more, tab-long}
 use Rattle.graphs.proofs.Stamps.{zeroes-at}
 use Rattle.lines.specs.Line.{pieces, isState, isTransition}
@@ -18,7 +19,8 @@ use Rattle.statelist.specs.declared.Reading.the-variants.{Graph, NoState
 use Rattle.statelist.specs.Text.{State, Transition, Seen, Meaning, reads, refused, isNil, atEnd}
 use Rattle.statelist.specs.Lists.{zeros, padded, flagsOf, placesOf, targetsOf, offsetsOf, graph, filled}
 use Rattle.statelist.specs.Labels.{labelAt, comes}
-use Rattle.statelist.specs.Loops.{stateAt, statesIn, transitionsIn, from-here, Index, Blank, roomFor, Declared, Listed, Fills}
+use Rattle.statelist.specs.Loops.{stateAt, statesIn, transitionsIn, from-here, Index, Blank, Refused, roomFor, Declared, Listed, Fills, Closed, Closes}
+use Rattle.statelist.specs.Build.{Buildable}
 use Rattle.statelist.proofs.Here.{nil-none, nil-some, end-here}
 use Rattle.statelist.proofs.Declared.{states-long}
 use Rattle.statelist.proofs.Zeros.{blank-padded}
@@ -105,3 +107,43 @@ module _ (text : List ℕ) (held heldT : ℕ) (flags places first second head ne
       let means : from-here (roomFor held heldT) text 0 [] [] ≡ reads all-seen = ends ∙ rw (nil-some states (omega (arith, states-long text flags places n))) in
       subst (Fills offsets targets flags places (Graph n e)) (sym means)
       (rw (states-long text flags places n, transitions-long from to e) cc)
+
+-- what the lists of the graph are built from
+pub listed-buildable : (text : List ℕ) (held n start : ℕ) (first second head next counted from to last prev offsets targets : List ℕ) (at e : ℕ)
+    → Listed text held n start first second head next counted from to last prev at e
+    → n ≤ most-states → held ≤ most-transitions → n < length offsets → held ≤ length targets → held ≤ length from → held ≤ length to
+    → targets ≡ zeros (length targets) → Buildable from to offsets targets e n
+listed-buildable text held n start first second head next counted from to last prev offsets targets at e l few-n few-held in-offsets in-targets in-from in-to blank =
+    record {
+      few-states = few-n;
+      few-transitions = omega (arith, l .few);
+      in-offsets = in-offsets;
+      in-targets = omega (arith, l .few);
+      in-from = omega (arith, l .few);
+      in-to = omega (arith, l .few);
+      sources = λ i h. l .below i h .0;
+      aims = λ i h. l .below i h .1;
+      blank = blank;
+    }
+
+pub refused-fills : (offsets targets flags places : List ℕ) (r : Reading) (means : Meaning) → Refused r means → Fills offsets targets flags places r means
+refused-fills offsets targets flags places r means x = subst (Fills offsets targets flags places r) (sym (x .is)) (x .tells)
+
+-- the T lines are refused
+pub stop-closes : (text : List ℕ) (held n start : ℕ) (first second head next offsets targets : List ℕ) (r : Reading)
+    → ((flags places : List ℕ) (h : ℕ) → Index text places first second head next n
+    → Refused r (from-here (roomFor h held) text start (statesIn text flags places n) []))
+    → Closes text held n start first second head next offsets targets r
+stop-closes text held n start first second head next offsets targets r stop h flags places d in-flags in-places =
+    subst (Fills offsets targets flags places r) (d .same held) (refused-fills offsets targets flags places r _ (stop flags places h (d .index)))
+
+-- the T lines are read
+pub closed-closes : (text : List ℕ) (held n start : ℕ) (first second head next counted from to last prev offsets targets : List ℕ) (at e : ℕ) (r : Reading)
+    → Listed text held n start first second head next counted from to last prev at e → length text ≤ at
+    → Closed n e (transitionsIn from to e) offsets targets r → Closes text held n start first second head next offsets targets r
+closed-closes text held n start first second head next counted from to last prev offsets targets at e r l end (inl none) h flags places d in-flags in-places =
+    rw (none .1) (ends-none text h held flags places first second head next counted from to last prev start n at e d l end (none .0) offsets targets)
+closed-closes text held n start first second head next counted from to last prev offsets targets at e r l end (inr some) h flags places d in-flags in-places =
+    rw (some .1)
+    (ends-graph text h held flags places first second head next counted from to last prev start n at e d l end (some .0) offsets targets in-flags in-places
+    (some .2) (some .3))

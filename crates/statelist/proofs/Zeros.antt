@@ -26,6 +26,9 @@ pub padded-long : (k : ℕ) (l : List ℕ) → length l ≤ k → length (padded
 unfolding padded
 padded-long k l h = simp (length-append, length-replicate) (omega arith)
 
+pub padded-whole : (l m : List ℕ) (k : ℕ) → l ≡ padded k m → length l ≡ k → l ≡ padded (length l) m
+padded-whole l m k e long = e ∙ ap (λ j. padded j m) (sym long)
+
 -- a list with the words of l in front and zeros behind them
 pub padded-is : (l m : List ℕ) → length l ≤ length m → ((v : ℕ) → v < length l → getD m v 0 ≡ getD l v 0)
     → ((v : ℕ) → length l ≤ v → getD m v 0 ≡ 0) → m ≡ padded (length m) l

@@ -4,7 +4,7 @@ use Prim.Native.Nat.{ℕ, suc, _+_, _*_, _<_, _≤_}
 use mathlib.Core.Path.{_≡_}
 use mathlib.Core.Bool.{true}
 use mathlib.Core.List.{List, []}
-use mathlib.Core.Logic.{_≢_}
+use mathlib.Core.Logic.{_⊎_, _≢_}
 use lib.ListN.{length, getD, drop}
 use Rattle.graphs.specs.Lists.{tab}
 use Rattle.lines.specs.Line.{pieces, isLabel}
@@ -16,9 +16,10 @@ use Rattle.pairs.specs.declared.Found.{Found}
 use Rattle.pairs.specs.declared.Found.the-variants.{At, Nothing}
 use Rattle.pairs.specs.Pairs.{isPair, found, Chain}
 use Rattle.statelist.specs.Text.{State, Transition, Rooms, Seen, Meaning, reads, refused, readLines}
-use Rattle.statelist.specs.Lists.{refusal, told, targetsFrom, filled}
+use Rattle.statelist.specs.Lists.{refusal, told, padded, targetsFrom, targetsOf, offsetsOf, filled}
 use Rattle.statelist.specs.Labels.{labelAt, comes}
 use Rattle.statelist.specs.declared.Reading.{Reading}
+use Rattle.statelist.specs.declared.Reading.the-variants.{Graph, NoState}
 use Rattle.statelist.specs.declared.went.Went.{Went}
 use Rattle.statelist.specs.declared.went.Went.the-variants.{On, Stop}
 use Rattle.statelist.specs.declared.states.NextState.{NextState}
@@ -134,3 +135,15 @@ abbrev pub Fills : (offsets targets flags places : List ℕ) → Reading → Mea
 Fills offsets targets flags places r (reads seen) =
     comes r offsets targets flags places ≡ filled (length offsets) (length targets) (length flags) (length places) (reads seen)
 Fills offsets targets flags places r (refused number line) = told r ≡ refusal number line
+
+-- the end of a reading: no state, or the lists of the graph
+abbrev pub Closed : (n e : ℕ) → List Transition → (offsets targets : List ℕ) → Reading → Type 0
+Closed n e transitions offsets targets r =
+    ((n ≡ 0) × (r ≡ NoState))
+    ⊎ ((0 < n) × (r ≡ Graph n e) × (offsets ≡ padded (length offsets) (offsetsOf n transitions)) × (targets ≡ padded (length targets) (targetsOf n transitions)))
+
+-- what comes of the T lines, whatever was done for the S lines
+abbrev pub Closes : (text : List ℕ) (held n start : ℕ) (first second head next offsets targets : List ℕ) → Reading → Type 0
+Closes text held n start first second head next offsets targets r =
+    (h : ℕ) (flags places : List ℕ) → Declared text h flags places first second head next start n → n ≤ length flags → 2 * n ≤ length places
+    → Fills offsets targets flags places r (from-here (roomFor h held) text 0 [] [])

@@ -1,4 +1,5 @@
 // Reading state-list text.
+mod fill;
 mod lists;
 mod rooms;
 mod states;
