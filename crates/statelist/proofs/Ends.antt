@@ -3,11 +3,12 @@ use Prim.Native.Nat.{ℕ, zero, suc, _+_, _-_, _*_, _<_, _≤_}
 use mathlib.Core.Path.{_≡_, refl, sym, ap, _∙_, subst}
 use mathlib.Core.Bool.{Bool, true, false}
 use mathlib.Core.List.{List, [], _∷_, _++_, map, append-assoc}
-use mathlib.Core.Logic.{_⊎_, inl, inr}
+use mathlib.Core.Logic.{_⊎_, inl, inr, _≢_}
 use lib.ListN.{length, getD, take, drop, replicate, length-take, length-drop, take-append-drop, length-replicate, getD-replicate}
 use lib.Seq.{ext-getD, getD-drop, take-suc, length-take-le}
 use native.Mathlib.Nat.{zero-add}
 use native.Mathlib.Omega.{arith}
+use borrow.Author.Tests.{lt-ltb, le-ltb}
 use Rattle.graphs.specs.Lists.{tab}
 use Rattle.graphs.specs.Words.{most-states, most-transitions}
 use Rattle.graphs.proofs.Tab.{tab-more, tab-long}
@@ -15,12 +16,13 @@ use Rattle.graphs.proofs.Stamps.{zeroes-at}
 use Rattle.lines.specs.Line.{pieces, isState, isTransition}
 use Rattle.lines.specs.Found.{firstLine, ended}
 use Rattle.statelist.specs.declared.Reading.{Reading}
-use Rattle.statelist.specs.declared.Reading.the-variants.{Graph, NoState}
-use Rattle.statelist.specs.Text.{State, Transition, Seen, Meaning, reads, refused, isNil, atEnd}
-use Rattle.statelist.specs.Lists.{zeros, padded, flagsOf, placesOf, targetsOf, offsetsOf, graph, filled}
+use Rattle.statelist.specs.declared.Reading.the-variants.{Graph, TooLong, NoState}
+use Rattle.statelist.specs.Text.{State, Transition, Rooms, Seen, Meaning, reads, refused, isNil, atEnd, most-text, meaning}
+use Rattle.statelist.specs.Lists.{zeros, padded, flagsOf, placesOf, targetsOf, offsetsOf, graph, filled, roomsOf, outcome}
 use Rattle.statelist.specs.Labels.{labelAt, comes}
 use Rattle.statelist.specs.Loops.{stateAt, statesIn, transitionsIn, from-here, Index, Blank, Refused, roomFor, Declared, Listed, Fills, Closed, Closes}
 use Rattle.statelist.specs.Build.{Buildable}
+use Rattle.statelist.proofs.Settled.{told-one}
 use Rattle.statelist.proofs.Here.{nil-none, nil-some, end-here}
 use Rattle.statelist.proofs.Declared.{states-long}
 use Rattle.statelist.proofs.Zeros.{blank-padded}
@@ -147,3 +149,42 @@ closed-closes text held n start first second head next counted from to last prev
     rw (some .1)
     (ends-graph text h held flags places first second head next counted from to last prev start n at e d l end (some .0) offsets targets in-flags in-places
     (some .2) (some .3))
+
+-- What comes of a call. A text that is too long is refused as 1.
+too-long : (rooms : Rooms) (text : List ℕ) → most-text < length text → meaning rooms text ≡ refused 1 0
+unfolding meaning
+too-long rooms text h = rw (lt-ltb _ _ h)
+
+not-long : (rooms : Rooms) (text : List ℕ) → length text ≤ most-text → meaning rooms text ≡ from-here rooms text 0 [] []
+unfolding meaning from-here
+not-long rooms text h = rw (le-ltb _ _ h)
+
+module _ (o t f p : ℕ) (text : List ℕ) where
+  pub comes-long : most-text < length text → comes TooLong (zeros o) (zeros t) (zeros f) (zeros p) ≡ outcome o t f p text
+  unfolding outcome
+  comes-long h = ap (filled o t f p) (sym (too-long (roomsOf o t f p) text h))
+
+  module _ (offsets targets flags places : List ℕ) (short : length text ≤ most-text) where
+    -- a graph: the lists stay as they are
+    pub comes-graph : (n e : ℕ) → length offsets ≡ o → length targets ≡ t → length flags ≡ f → length places ≡ p
+        → Fills offsets targets flags places (Graph n e) (from-here (roomsOf o t f p) text 0 [] [])
+        → comes (Graph n e) offsets targets flags places ≡ outcome o t f p text
+    unfolding outcome
+    comes-graph n e eo et ef ep fills =
+        rw (not-long (roomsOf o t f p) text short)
+        (go (from-here (roomsOf o t f p) text 0 [] []) fills ∙ rw (eo, et, ef, ep))
+      where
+        go : (means : Meaning) → Fills offsets targets flags places (Graph n e) means
+            → comes (Graph n e) offsets targets flags places ≡ filled (length offsets) (length targets) (length flags) (length places) means
+        go (reads seen) is = is
+        go (refused number line) is = absurd (let z : _≡_ {A = ℕ} 0 1 = cc in omega arith)
+
+    -- a refusal: all words are 0
+    pub comes-refused : (r : Reading) → ((n e : ℕ) → r ≢ Graph n e) → Fills offsets targets flags places r (from-here (roomsOf o t f p) text 0 [] [])
+        → comes r (zeros o) (zeros t) (zeros f) (zeros p) ≡ outcome o t f p text
+    unfolding outcome
+    comes-refused r no-graph fills = rw (not-long (roomsOf o t f p) text short) (go (from-here (roomsOf o t f p) text 0 [] []) fills)
+      where
+        go : (means : Meaning) → Fills offsets targets flags places r means → comes r (zeros o) (zeros t) (zeros f) (zeros p) ≡ filled o t f p means
+        go (reads seen) is = absurd (no-graph _ _ (told-one r (Graph _ _) (ap (λ out. out .tells) is)))
+        go (refused number line) is = rw is
