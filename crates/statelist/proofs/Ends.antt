@@ -15,6 +15,7 @@ use Rattle.graphs.proofs.Tab.{tab-more, tab-long}
 use Rattle.graphs.proofs.Stamps.{zeroes-at}
 use Rattle.lines.specs.Line.{pieces, isState, isTransition}
 use Rattle.lines.specs.Found.{firstLine, ended}
+use Rattle.statelist.proofs.Nil.{nil-none, nil-some}
 use Rattle.statelist.specs.declared.Reading.{Reading}
 use Rattle.statelist.specs.declared.Reading.the-variants.{Graph, TooLong, NoState}
 use Rattle.statelist.specs.Text.{State, Transition, Rooms, Seen, Meaning, reads, refused, isNil, atEnd, most-text, meaning}
@@ -23,7 +24,7 @@ use Rattle.statelist.specs.Labels.{labelAt, comes}
 use Rattle.statelist.specs.Loops.{stateAt, statesIn, transitionsIn, from-here, Index, Blank, Refused, roomFor, Declared, Listed, Fills, Closed, Closes}
 use Rattle.statelist.specs.Build.{Buildable}
 use Rattle.statelist.proofs.Settled.{told-one}
-use Rattle.statelist.proofs.Here.{nil-none, nil-some, end-here}
+use Rattle.statelist.proofs.Here.{end-here}
 use Rattle.statelist.proofs.Declared.{states-long}
 use Rattle.statelist.proofs.Zeros.{blank-padded}
 use Rattle.statelist.proofs.Counts.{transitions-long}

@@ -15,6 +15,8 @@ use Rattle.graphs.proofs.Tests.{either, clash, same?, and-cases, cond-ind}
 use Rattle.graphs.proofs.Same.{eq-same, any-not-at, all-join}
 use Rattle.graphs.proofs.Once.{once-join}
 use Rattle.lines.specs.Line.{field, accepting, isState, isTransition, flagOf}
+use Rattle.lines.proofs.Records.{flag-low}
+use Rattle.statelist.proofs.Nil.{is-nil}
 use Rattle.statelist.specs.Text.{State, Transition, Rooms, Seen, Meaning, reads, refused, isNil, declared, numberOf, transitionOf, stood, withState, withTransition, stateLine, transitionLine, oneLine, nothing}
 use Rattle.statelist.specs.Lists.{targetsFrom}
 use Rattle.statelist.proofs.Targets.{target-stood, targets-more}
@@ -40,20 +42,16 @@ pub record Good (rooms : Rooms) (text : List ℕ) (seen : Seen) : Type 0 where
   pub sources-below : all (λ t. ltb (t .from) (length (seen .states))) (seen .transitions) ≡ true
   pub ends-below : all (λ t. ltb (t .to) (length (seen .states))) (seen .transitions) ≡ true
   pub once : (s : ℕ) → Once (targetsFrom s (seen .transitions))
+  pub numbered : seen .line ≡ suc (length (seen .states) + length (seen .transitions))
 
--- what is read has Q; what is refused has a number from 1 to 8
-abbrev pub Either : (Seen → Type 0) → Meaning → Type 0
-Either Q (reads seen) = Q seen
-Either Q (refused number line) = (1 ≤ number) × (number ≤ 8)
+-- what is read has Q; what is refused has a number from 1 to 8, and its line is at most one more than the records that the rooms hold
+abbrev pub Either : Rooms → (Seen → Type 0) → Meaning → Type 0
+Either rooms Q (reads seen) = Q seen
+Either rooms Q (refused number line) = (1 ≤ number) × (number ≤ 8) × (line ≤ suc (rooms .for-states + rooms .for-transitions))
 
 all-more : {A : Type 0} (f : A → Bool) (l : List A) (x : A) → all f l ≡ true → f x ≡ true → all f (l ++ (x ∷ [])) ≡ true
 unfolding all
 all-more f l x e h = rw (all-join f l (x ∷ []), e, h)
-
-is-nil : {A : Type 0} (l : List A) → isNil l ≡ true → l ≡ []
-unfolding isNil
-is-nil [] e = refl
-is-nil (x ∷ l) e = absurd (clash e refl)
 
 -- a label that was declared has the number of a state
 number-below : (label : List ℕ) (states : List State) → declared label states ≡ true → numberOf label states < length states
@@ -92,10 +90,6 @@ module _ (states : List State) (s : State) where
           clash (eq-same (s .label) (labelIn states i) (sym both)) (any-not-at f states new i absent (omega arith))
       go le (inr ne) = before i j h (omega arith) (sym (old i (omega arith)) ∙ e ∙ old j (omega arith))
 
-flag-below : (line : List ℕ) → flagOf line < 2
-unfolding flagOf
-flag-below line = cond-ind (λ k. k < 2) (same (field 2 line) accepting) (λ e. omega arith) (λ e. omega arith)
-
 -- one transition more, at the end, of a pair that did not stand
 more-once : (t : Transition) (ts : List Transition) → stood t ts ≡ false → ((s : ℕ) → Once (targetsFrom s ts))
     → (s : ℕ) → Once (targetsFrom s (ts ++ (t ∷ [])))
@@ -122,6 +116,7 @@ module _ (rooms : Rooms) (text : List ℕ) where
         sources-below = refl;
         ends-below = refl;
         once = λ s. tt;
+        numbered = refl;
       }
 
   module _ (line : List ℕ) (seen : Seen) (good : Good rooms text seen) where
@@ -137,12 +132,13 @@ module _ (rooms : Rooms) (text : List ℕ) where
         record {
           states-fit = simp length-append (omega arith);
           transitions-fit = good .transitions-fit;
-          flags-below = all-more (λ s. ltb (s .flag) 2) (seen .states) state (good .flags-below) (lt-ltb (flagOf line) 2 (flag-below line));
+          flags-below = all-more (λ s. ltb (s .flag) 2) (seen .states) state (good .flags-below) (lt-ltb (flagOf line) 2 (flag-low line));
           labels-stand = all-more (stands text) (seen .states) state (good .labels-stand) (eq-same _ _ here);
           labels-apart = more-apart (seen .states) state new (good .labels-apart);
           sources-below = rw none;
           ends-below = rw none;
           once = good .once;
+          numbered = rw (length-append (seen .states) (state ∷ [])) (omega (arith, good .numbered));
         }
 
     transition-good : declared (field 1 line) (seen .states) ≡ true → declared (field 2 line) (seen .states) ≡ true
@@ -161,33 +157,37 @@ module _ (rooms : Rooms) (text : List ℕ) where
           sources-below = all-more (λ u. ltb (u .from) n) (seen .transitions) t (good .sources-below) (known (field 1 line) from);
           ends-below = all-more (λ u. ltb (u .to) n) (seen .transitions) t (good .ends-below) (known (field 2 line) to);
           once = more-once t (seen .transitions) new (good .once);
+          numbered = rw (length-append (seen .transitions) (t ∷ [])) (omega (arith, good .numbered));
         }
       where
         known : (label : List ℕ) → declared label (seen .states) ≡ true → ltb (numberOf label (seen .states)) (length (seen .states)) ≡ true
         known label e = lt-ltb _ _ (number-below label (seen .states) e)
 
-    state-line-good : take (length (field 1 line)) (drop (seen .at + 2) text) ≡ field 1 line → Either After (stateLine rooms line seen)
+    low : (number : ℕ) → 1 ≤ number → number ≤ 8 → Either rooms After (refused number (seen .line))
+    low number h k = (h, k, omega (arith, good .numbered, good .states-fit, good .transitions-fit))
+
+    state-line-good : take (length (field 1 line)) (drop (seen .at + 2) text) ≡ field 1 line → Either rooms After (stateLine rooms line seen)
     unfolding stateLine withState
     state-line-good here =
-        cond-ind (Either After) (not (isNil (seen .transitions))) (λ e. (omega arith, omega arith)) (λ none.
-        cond-ind (Either After) (declared (field 1 line) (seen .states)) (λ e. (omega arith, omega arith)) (λ new.
-        cond-ind (Either After) (leb (rooms .for-states) (length (seen .states))) (λ e. (omega arith, omega arith)) (λ room.
+        cond-ind (Either rooms After) (not (isNil (seen .transitions))) (λ e. low 2 (omega arith) (omega arith)) (λ none.
+        cond-ind (Either rooms After) (declared (field 1 line) (seen .states)) (λ e. low 3 (omega arith) (omega arith)) (λ new.
+        cond-ind (Either rooms After) (leb (rooms .for-states) (length (seen .states))) (λ e. low 6 (omega arith) (omega arith)) (λ room.
         (state-good (is-nil (seen .transitions) (not-false _ none)) new (leb-false _ _ room) here, refl))))
 
-    transition-line-good : Either After (transitionLine rooms line seen)
+    transition-line-good : Either rooms After (transitionLine rooms line seen)
     unfolding transitionLine withTransition
     transition-line-good =
         let from = declared (field 1 line) (seen .states) in
         let to = declared (field 2 line) (seen .states) in
-        cond-ind (Either After) (not (from && to)) (λ e. (omega arith, omega arith)) (λ known.
-        cond-ind (Either After) (stood (transitionOf line (seen .states)) (seen .transitions)) (λ e. (omega arith, omega arith)) (λ new.
-        cond-ind (Either After) (leb (rooms .for-transitions) (length (seen .transitions))) (λ e. (omega arith, omega arith)) (λ room.
+        cond-ind (Either rooms After) (not (from && to)) (λ e. low 4 (omega arith) (omega arith)) (λ known.
+        cond-ind (Either rooms After) (stood (transitionOf line (seen .states)) (seen .transitions)) (λ e. low 5 (omega arith) (omega arith)) (λ new.
+        cond-ind (Either rooms After) (leb (rooms .for-transitions) (length (seen .transitions))) (λ e. low 7 (omega arith) (omega arith)) (λ room.
         let both = and-cases from to (not-false (from && to) known) in
         (transition-good (both .0) (both .1) new (leb-false _ _ room), refl))))
 
     pub line-good : (isState line ≡ true → take (length (field 1 line)) (drop (seen .at + 2) text) ≡ field 1 line)
-        → Either After (oneLine rooms line seen)
+        → Either rooms After (oneLine rooms line seen)
     unfolding oneLine
     line-good here =
-        cond-ind (Either After) (isState line) (λ e. state-line-good (here e)) (λ e.
-        cond-ind (Either After) (isTransition line) (λ k. transition-line-good) (λ k. (omega arith, omega arith)))
+        cond-ind (Either rooms After) (isState line) (λ e. state-line-good (here e)) (λ e.
+        cond-ind (Either rooms After) (isTransition line) (λ k. transition-line-good) (λ k. low 2 (omega arith) (omega arith)))

@@ -20,6 +20,7 @@ use Rattle.lines.specs.Line.{cut, pieces, field, isState, isTransition, flagOf}
 use Rattle.lines.specs.Found.{labelOf, firstLine, ended, pastLine, stateFound, transitionFound}
 use Rattle.lines.proofs.Pieces.{pieces-some, pieces-ended, pieces-rest}
 use Rattle.lines.proofs.Records.{letter-state, letter-transition}
+use Rattle.statelist.proofs.Nil.{nil-some}
 use Rattle.statelist.specs.Text as text
 use Rattle.statelist.specs.Text.{Rooms, Seen, Meaning, reads, refused, isNil, declared, transitionOf, stood, withState, withTransition, stateLine, transitionLine, oneLine, thenOn, atEnd, readLines}
 use Rattle.statelist.specs.Loops.{from-here}
@@ -29,18 +30,6 @@ pub byte-inside : (l : List ℕ) (i x : ℕ) → 0 < x → getD l i 0 ≡ x → 
 byte-inside [] i x low e = absurd (omega arith)
 byte-inside (b ∷ l) zero x low e = omega arith
 byte-inside (b ∷ l) (suc i) x low e = let h = byte-inside l i x low e in omega arith
-
--- whether a list is empty, by its length
-module _ {ℓ} {A : Type ℓ} where
-  pub nil-none : (l : List A) → length l ≡ 0 → isNil l ≡ true
-  unfolding isNil
-  nil-none [] e = refl
-  nil-none (x ∷ l) e = absurd (omega arith)
-
-  pub nil-some : (l : List A) → 0 < length l → isNil l ≡ false
-  unfolding isNil
-  nil-some [] h = absurd (omega arith)
-  nil-some (x ∷ l) h = refl
 
 -- the state that was found at a place is the page's
 pub record StateHere (left : List ℕ) (at : ℕ) (l : Label) (flag next : ℕ) : Type 0 where

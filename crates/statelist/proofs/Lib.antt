@@ -1,4 +1,5 @@
 -- Laws of what a text means and of the four lists, then of the loops that read it and build them.
+pub mod Nil
 pub mod Zeros
 pub mod Targets
 pub mod Good

@@ -15,17 +15,13 @@ use Rattle.lines.specs.Found.{firstLine, ended}
 use Rattle.statelist.specs.Text.{Rooms, Seen, Meaning, reads, refused, isNil, oneLine, thenOn, atEnd, readLines, nothing, most-text, meaning}
 use Rattle.lines.proofs.Pieces.{pieces-ended}
 use Rattle.lines.proofs.Records.{state-place}
+use Rattle.statelist.proofs.Nil.{not-nil}
 use Rattle.statelist.proofs.Good.{Good, Either, After, nothing-good, line-good}
 
-not-nil : {A : Type 0} (l : List A) → isNil l ≡ false → 1 ≤ length l
-unfolding isNil
-not-nil [] e = absurd (clash refl e)
-not-nil (x ∷ l) e = omega arith
-
-then-either : (Q R : Seen → Type 0) (m : Meaning) (more : Seen → Meaning) → Either Q m → ((s : Seen) → Q s → Either R (more s))
-    → Either R (thenOn m more)
-then-either Q R (reads seen) more q r = r seen q
-then-either Q R (refused number line) more q r = q
+then-either : (rooms : Rooms) (Q R : Seen → Type 0) (m : Meaning) (more : Seen → Meaning) → Either rooms Q m
+    → ((s : Seen) → Q s → Either rooms R (more s)) → Either rooms R (thenOn m more)
+then-either rooms Q R (reads seen) more q r = r seen q
+then-either rooms Q R (refused number line) more q r = q
 
 -- a line that is not the last piece of what is left
 module _ (text : List ℕ) (at : ℕ) (line next : List ℕ) (more : List (List ℕ)) (e : line ∷ next ∷ more ≡ pieces (drop at text)) where
@@ -52,31 +48,36 @@ module _ (rooms : Rooms) (text : List ℕ) where
   abbrev pub Ends : Seen → Type 0
   Ends seen = Good rooms text seen × (1 ≤ length (seen .states))
 
-  end-good : (rest : List ℕ) (seen : Seen) → Good rooms text seen → Either Ends (atEnd rest seen)
+  end-good : (rest : List ℕ) (seen : Seen) → Good rooms text seen → Either rooms Ends (atEnd rest seen)
   unfolding atEnd
   end-good rest seen good =
-      cond-ind (Either Ends) (not (isNil rest)) (λ e. (omega arith, omega arith)) (λ k.
-      cond-ind (Either Ends) (isNil (seen .states)) (λ e. (omega arith, omega arith)) (λ some. (good, not-nil (seen .states) some)))
+      cond-ind (Either rooms Ends) (not (isNil rest)) (λ e. (omega arith, omega arith, in-room)) (λ k.
+      cond-ind (Either rooms Ends) (isNil (seen .states)) (λ e. (omega arith, omega arith, omega arith)) (λ some.
+      (good, not-nil (seen .states) some)))
+    where
+      in-room : seen .line ≤ suc (rooms .for-states + rooms .for-transitions)
+      in-room = omega (arith, good .numbered, good .states-fit, good .transitions-fit)
 
   lines-good : (lines : List (List ℕ)) (seen : Seen) → lines ≡ pieces (drop (seen .at) text) → Good rooms text seen
-      → Either Ends (readLines rooms lines seen)
+      → Either rooms Ends (readLines rooms lines seen)
   unfolding readLines
   lines-good [] seen e good = end-good [] seen good
   lines-good (rest ∷ []) seen e good = end-good rest seen good
   lines-good (line ∷ next ∷ more) seen e good =
-      then-either (After rooms text line seen good) Ends (oneLine rooms line seen) (λ s. readLines rooms (next ∷ more) s)
+      then-either rooms (After rooms text line seen good) Ends (oneLine rooms line seen) (λ s. readLines rooms (next ∷ more) s)
       (line-good rooms text line seen good (label-place text (seen .at) line next more e))
       (λ s h. lines-good (next ∷ more) s (rw (h .1) (next-lines text (seen .at) line next more e)) (h .0))
 
-  meaning-either : Either Ends (meaning rooms text)
+  meaning-either : Either rooms Ends (meaning rooms text)
   unfolding meaning
   meaning-either =
-      cond-ind (Either Ends) (ltb most-text (length text)) (λ e. (omega arith, omega arith))
+      cond-ind (Either rooms Ends) (ltb most-text (length text)) (λ e. (omega arith, omega arith, omega arith))
       (λ e. lines-good (pieces text) nothing refl (nothing-good rooms text))
 
   pub meaning-good : (seen : Seen) → meaning rooms text ≡ reads seen → Good rooms text seen × (1 ≤ length (seen .states))
-  meaning-good seen e = subst (Either Ends) e meaning-either
+  meaning-good seen e = subst (Either rooms Ends) e meaning-either
 
-  -- 01 numbers these refusals 1 to 8
-  pub numbers-only : (number line : ℕ) → meaning rooms text ≡ refused number line → (1 ≤ number) × (number ≤ 8)
-  numbers-only number line e = subst (Either Ends) e meaning-either
+  -- 01 numbers these refusals 1 to 8; their lines are below 20,482, whatever the text
+  pub numbers-only : (number line : ℕ) → meaning rooms text ≡ refused number line
+      → (1 ≤ number) × (number ≤ 8) × (line ≤ suc (rooms .for-states + rooms .for-transitions))
+  numbers-only number line e = subst (Either rooms Ends) e meaning-either
