@@ -7,6 +7,7 @@ pub mod Meaning
 pub mod Filled
 pub mod Labels
 pub mod Settled
+pub mod Promises
 pub mod Here
 pub mod Index
 pub mod Declared
