@@ -79,7 +79,7 @@ module _ (o t f p : ℕ) (text : List ℕ) where
       go : (means : Meaning) → meaning (roomsOf o t f p) text ≡ means → (1 ≤ number) × (number ≤ 8) × (line ≤ 20481)
       go (reads seen) m =
           let tells : graph (length (seen .states)) (length (seen .transitions)) ≡ refusal number line =
-              ap (λ x. filled o t f p x .tells) (sym m) ∙ told in
+          ap (λ x. filled o t f p x .tells) (sym m) ∙ told in
           absurd (let z : _≡_ {A = ℕ} 0 1 = cc in omega arith)
       go (refused k l) m =
           let tells : refusal k l ≡ refusal number line = ap (λ x. filled o t f p x .tells) (sym m) ∙ told in

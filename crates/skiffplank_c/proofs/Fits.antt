@@ -1,0 +1,18 @@
+-- Whatever the text, what `statelist::read` says fits 32 bits.
+use Prim.Native.Nat.{ℕ}
+use mathlib.Core.Path.{_≡_, refl, sym, ap, _∙_}
+use mathlib.Core.List.{List}
+use native.Mathlib.Omega.{arith}
+use Rattle.statelist.specs.declared.Reading.{Reading}
+use Rattle.statelist.specs.Lists.{Told, graph, refusal, told, outcome}
+use Rattle.statelist.specs.Labels.{comes}
+use Rattle.statelist.proofs.Promises.{graph-low, refusal-low}
+use Rattle.skiffplank_c.specs.Answers.{Fits}
+
+pub read-fits : (o t f p : ℕ) (text : List ℕ) (r : Reading) (offsets targets flags places : List ℕ)
+    → comes r offsets targets flags places ≡ outcome o t f p text → Fits (told r)
+read-fits o t f p text r offsets targets flags places e = go (told r) (sym (ap (λ out. out .tells) e))
+  where
+    go : (says : Told) → outcome o t f p text .tells ≡ says → Fits says
+    go (graph n k) q = let low = graph-low o t f p text n k q in (omega (arith, low .0), omega (arith, low .1))
+    go (refusal number line) q = omega (arith, refusal-low o t f p text number line q .2)

@@ -1,0 +1,2 @@
+-- What callers from C and Rust are told, as words.
+pub mod Answers
