@@ -1,7 +1,10 @@
 -- The kinds of bytes. 01: "The reader sorts bytes by a table of 256 byte kinds (upper, lower, digit, mark, tab, line feed, other)".
-use Prim.Native.Nat.{ℕ}
+use Prim.Native.Nat.{ℕ, _<_}
+use mathlib.Core.Path.{_≡_}
 use mathlib.Core.Bool.{Bool, cond, _&&_, _||_}
+use mathlib.Core.List.{List}
 use lib.Dec.{eqb, leb, ltb}
+use lib.ListN.{length, getD}
 
 -- the numbers of the kinds; those below `tab` are the kinds of a label's bytes
 abbrev pub upper : ℕ
@@ -42,3 +45,8 @@ kindOf b =
 -- a byte that a label may hold
 unfoldable pub inLabel : ℕ → Bool
 inLabel b = ltb (kindOf b) tab
+
+-- a list that has the kind of every byte
+pub record Table (kinds : List ℕ) : Type 0 where
+  pub long : length kinds ≡ 256
+  pub right : (byte : ℕ) → byte < 256 → getD kinds byte 0 ≡ kindOf byte

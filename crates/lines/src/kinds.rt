@@ -1,7 +1,7 @@
 // The table of the 256 byte kinds. 01: "upper, lower, digit, mark, tab, line feed, other".
 ghost use mathlib.Core.Path.{_≡_};
 ghost use Prim.Native.Nat.{_<_};
-ghost use Rattle.lines.specs.Bytes.{kindOf};
+ghost use Rattle.lines.specs.Bytes.{kindOf, Table};
 
 // upper 0, lower 1, digit 2, mark 3, tab 4, line feed 5, other 6; a byte is named where a run begins or ends
 const KINDS: [u8; 256] = [
@@ -263,10 +263,18 @@ const KINDS: [u8; 256] = [
     6,
 ];
 
-pub fn kind(byte: u8) -> u8
+// The table, for a caller that looks up many bytes: it lends it.
+pub fn table() -> [u8; 256]
+    ensures { λ r. ⌜ Table r ⌝ }
+{
+    KINDS
+}
+
+pub fn kind_in(kinds: &[u8], byte: u8) -> u8
+    requires { ⌜ Table (now kinds) ⌝ }
     ensures { λ r. ⌜ r ≡ kindOf byte ⌝ }
 {
-    KINDS[wide(byte)]
+    kinds[wide(byte)]
 }
 
 pub fn wide(byte: u8) -> usize

@@ -9,7 +9,7 @@ use scan::label_at;
 ghost use mathlib.Core.Path.{_≡_};
 ghost use Prim.Native.Nat.{_≤_};
 ghost use lib.ListN.{drop};
-ghost use Rattle.lines.specs.Bytes.{kindOf};
+ghost use Rattle.lines.specs.Bytes.{kindOf, Table};
 ghost use Rattle.lines.specs.Found.{stateFound, transitionFound};
 
 // A label: its length, and its bytes as two words, the first eight bytes and the rest of them, in base 256.
@@ -37,15 +37,23 @@ pub enum TransitionLine {
 pub fn kind(byte: u8) -> u8
     ensures { λ r. ⌜ r ≡ kindOf byte ⌝ }
 {
-    kinds::kind(byte)
+    let kinds = kinds::table();
+    kinds::kind_in(&kinds, byte)
+}
+
+// The kinds of all bytes, for a caller that lends them to `state_line` and `transition_line`.
+pub fn kind_table() -> [u8; 256]
+    ensures { λ r. ⌜ Table r ⌝ }
+{
+    kinds::table()
 }
 
 // The state that stands at a place of a text: `S→label→flag` and a line feed.
-pub fn state_line(text: &[u8], at: usize) -> StateLine
-    requires { ⌜ at ≤ 1048576 ⌝ }
+pub fn state_line(kinds: &[u8], text: &[u8], at: usize) -> StateLine
+    requires { ⌜ Table (now kinds) × (at ≤ 1048576) ⌝ }
     ensures { λ r. ⌜ r ≡ stateFound at (drop at (now (text .entry))) ⌝ }
 {
-    let Front::Stands { label, after } = front_at(text, at, 83) else {
+    let Front::Stands { label, after } = front_at(kinds, text, at, 83) else {
         return StateLine::NoState;
     };
     if !byte_is(text, after + 1, 10) {
@@ -69,14 +77,14 @@ pub fn state_line(text: &[u8], at: usize) -> StateLine
 }
 
 // The transition that stands at a place of a text: `T→label→label` and a line feed.
-pub fn transition_line(text: &[u8], at: usize) -> TransitionLine
-    requires { ⌜ at ≤ 1048576 ⌝ }
+pub fn transition_line(kinds: &[u8], text: &[u8], at: usize) -> TransitionLine
+    requires { ⌜ Table (now kinds) × (at ≤ 1048576) ⌝ }
     ensures { λ r. ⌜ r ≡ transitionFound at (drop at (now (text .entry))) ⌝ }
 {
-    let Front::Stands { label: from, after } = front_at(text, at, 84) else {
+    let Front::Stands { label: from, after } = front_at(kinds, text, at, 84) else {
         return TransitionLine::NoTransition;
     };
-    let to = label_at(text, after);
+    let to = label_at(kinds, text, after);
     let len = to.len;
     if len == 0 {
         return TransitionLine::NoTransition;

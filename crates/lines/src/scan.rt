@@ -1,11 +1,12 @@
 // What stands at a place of a text: a byte, a label, and the front of a line, which is its letter, a tab, a label and a tab.
 use crate::Label;
-use crate::kinds::kind;
+use crate::kinds::kind_in;
 use crate::kinds::wide;
 ghost use mathlib.Core.Path.{_≡_};
 ghost use Prim.Native.Nat.{_+_, _<_, _≤_};
 ghost use lib.Dec.{eqb};
 ghost use lib.ListN.{getD, drop};
+ghost use Rattle.lines.specs.Bytes.{Table};
 ghost use Rattle.lines.specs.Found.{labelOf};
 ghost use Rattle.lines.specs.Scan.{most-place, partOf, labelHere, frontOf};
 
@@ -31,8 +32,8 @@ pub fn byte_is(text: &[u8], i: usize, byte: u8) -> bool
 }
 
 // The first of up to eight label bytes from a place on, and their word.
-pub fn part_at(text: &[u8], at: usize) -> Part
-    requires { ⌜ at ≤ most-place ⌝ }
+pub fn part_at(kinds: &[u8], text: &[u8], at: usize) -> Part
+    requires { ⌜ Table (now kinds) × (at ≤ most-place) ⌝ }
     ensures { λ r. ⌜ r ≡ partOf (drop at (now (text .entry))) ⌝ }
 {
     let mut len = 0;
@@ -43,7 +44,7 @@ pub fn part_at(text: &[u8], at: usize) -> Part
             return Part { len, word };
         }
         let byte = text[i];
-        if 4 <= kind(byte) {
+        if 4 <= kind_in(kinds, byte) {
             return Part { len, word };
         }
         word = word * 256 + wide(byte);
@@ -53,11 +54,11 @@ pub fn part_at(text: &[u8], at: usize) -> Part
 }
 
 // The label of up to 16 bytes from a place on; it has no byte if none stands there.
-pub fn label_at(text: &[u8], at: usize) -> Label
-    requires { ⌜ at + 8 ≤ most-place ⌝ }
+pub fn label_at(kinds: &[u8], text: &[u8], at: usize) -> Label
+    requires { ⌜ Table (now kinds) × (at + 8 ≤ most-place) ⌝ }
     ensures { λ r. ⌜ r ≡ labelOf (labelHere (drop at (now (text .entry)))) ⌝ }
 {
-    let begin = part_at(text, at);
+    let begin = part_at(kinds, text, at);
     let len = begin.len;
     let first = begin.word;
     if len < 8 {
@@ -67,7 +68,7 @@ pub fn label_at(text: &[u8], at: usize) -> Label
             second: 0,
         };
     }
-    let end = part_at(text, at + 8);
+    let end = part_at(kinds, text, at + 8);
     Label {
         len: 8 + end.len,
         first,
@@ -76,8 +77,8 @@ pub fn label_at(text: &[u8], at: usize) -> Label
 }
 
 // The front of a line, which is its letter, a tab, a label and a tab; the next field starts at `after`.
-pub fn front_at(text: &[u8], at: usize, letter: u8) -> Front
-    requires { ⌜ (at + 10 ≤ most-place) × (0 < letter) ⌝ }
+pub fn front_at(kinds: &[u8], text: &[u8], at: usize, letter: u8) -> Front
+    requires { ⌜ Table (now kinds) × (at + 10 ≤ most-place) × (0 < letter) ⌝ }
     ensures { λ r. ⌜ r ≡ frontOf at letter (drop at (now (text .entry))) ⌝ }
 {
     if !byte_is(text, at, letter) {
@@ -86,7 +87,7 @@ pub fn front_at(text: &[u8], at: usize, letter: u8) -> Front
     if !byte_is(text, at + 1, 9) {
         return Front::Nothing;
     }
-    let label = label_at(text, at + 2);
+    let label = label_at(kinds, text, at + 2);
     let len = label.len;
     if len == 0 {
         return Front::Nothing;

@@ -6,6 +6,7 @@ use crate::rooms::transitions_held;
 use crate::states::read_states;
 use crate::transitions::read_transitions;
 use crate::went::Went;
+use lines::kind_table;
 ghost use mathlib.Core.Path.{_≡_};
 ghost use mathlib.Core.List.{[]};
 ghost use mathlib.Core.Logic.{_≢_};
@@ -16,6 +17,7 @@ ghost use Rattle.statelist.specs.Text.{most-text};
 ghost use Rattle.statelist.specs.Lists.{zeros, roomsOf, transitionsHeld};
 ghost use Rattle.statelist.specs.Loops.{transitionsIn, from-here, Fills, Closed, Closes};
 ghost use Rattle.statelist.specs.Build.{Buildable, Counts};
+ghost use Rattle.lines.specs.Bytes.{Table};
 ghost use Rattle.pairs.specs.Pairs.{Chain};
 
 pub fn fill_all(
@@ -32,12 +34,14 @@ pub fn fill_all(
         (from-here (roomsOf (length (now (offsets .entry))) (length (now (targets .entry))) (length (now (flags .entry))) (length (now (places .entry))))
         (now (text .entry)) 0 [] []) ⌝ }
 {
+    let kinds = kind_table();
     let mut first = [0usize; 4096];
     let mut second = [0usize; 4096];
     let mut head = [0u16; 16384];
     let mut next = [0u16; 4096];
     let held = states_held(offsets.len(), flags.len(), places.len());
     match read_states(
+        &kinds,
         text,
         held,
         flags,
@@ -49,6 +53,7 @@ pub fn fill_all(
     ) {
         Went::Stop(refusal) => refusal,
         Went::On { at, count } => fill_from(
+            &kinds,
             text,
             at,
             count,
@@ -64,6 +69,7 @@ pub fn fill_all(
 
 // The T lines from `start` on, with n states declared, and the lists of the graph.
 fn fill_from(
+    kinds: &[u8],
     text: &[u8],
     start: usize,
     n: usize,
@@ -76,7 +82,7 @@ fn fill_from(
 ) -> Reading
     requires { ⌜ (length (now text) ≤ most-text) × (start ≤ length (now text)) × (getD (now text) start 0 ≢ 83)
         × (n ≤ most-states) × (n ≤ length (now offsets) - 1) × Chain (now first) (now second) (now head) (now next) n
-        × (now offsets ≡ zeros (length (now offsets))) × (now targets ≡ zeros (length (now targets))) ⌝ }
+        × (now offsets ≡ zeros (length (now offsets))) × (now targets ≡ zeros (length (now targets))) × Table (now kinds) ⌝ }
     ensures { λ r. ⌜ Closes (now (text .entry)) (transitionsHeld (length (now (targets .entry)))) n start
         (now (first .entry)) (now (second .entry)) (now (head .entry)) (now (next .entry)) (now (offsets .exit)) (now (targets .exit)) r ⌝ }
 {
@@ -86,6 +92,7 @@ fn fill_from(
     let mut prev = [0u16; 16384];
     let held = transitions_held(targets.len());
     match read_transitions(
+        kinds,
         text,
         start,
         n,

@@ -12,6 +12,7 @@ ghost use Prim.Native.Nat.{_+_, _*_, _≤_, _<_};
 ghost use lib.Dec.{eqb};
 ghost use lib.ListN.{length, getD, set};
 ghost use Rattle.graphs.specs.Words.{most-states};
+ghost use Rattle.lines.specs.Bytes.{Table};
 ghost use Rattle.pairs.specs.Pairs.{buckets, bucketOf, Chain};
 ghost use Rattle.statelist.specs.Text.{most-text};
 ghost use Rattle.statelist.specs.Loops.{Declared, StateNext, StatesRead};
@@ -27,6 +28,7 @@ pub enum NextState {
 }
 
 pub fn read_states(
+    kinds: &[u8],
     text: &[u8],
     held: usize,
     flags: &mut [u16],
@@ -39,14 +41,15 @@ pub fn read_states(
     requires { ⌜ (length (now text) ≤ most-text) × (held ≤ most-states)
         × (held ≤ length (now flags)) × (2 * held ≤ length (now places))
         × (held ≤ length (now first)) × (held ≤ length (now second)) × (held ≤ length (now next))
-        × Declared (now text) held (now flags) (now places) (now first) (now second) (now head) (now next) 0 0 ⌝ }
+        × Declared (now text) held (now flags) (now places) (now first) (now second) (now head) (now next) 0 0
+        × Table (now kinds) ⌝ }
     ensures { λ r. ⌜ StatesRead (now (text .entry)) held (now (flags .exit)) (now (places .exit))
         (now (first .exit)) (now (second .exit)) (now (head .exit)) (now (next .exit)) r ⌝ }
 {
     let mut at = 0;
     let mut n = 0;
     while begins_state(text, at) {
-        match next_state(text, at, held, first, second, head, next, n) {
+        match next_state(kinds, text, at, held, first, second, head, next, n) {
             NextState::Bad(refusal) => {
                 return Went::Stop(refusal);
             }
@@ -83,6 +86,7 @@ fn begins_state(text: &[u8], at: usize) -> bool
 
 // 01: "within an S line 2, 3, 6".
 fn next_state(
+    kinds: &[u8],
     text: &[u8],
     at: usize,
     held: usize,
@@ -93,14 +97,14 @@ fn next_state(
     n: usize,
 ) -> NextState
     requires { ⌜ (length (now text) ≤ most-text) × (at < length (now text)) × (getD (now text) at 0 ≡ 83) × (n ≤ most-states)
-        × Chain (now first) (now second) (now head) (now next) n ⌝ }
+        × Chain (now first) (now second) (now head) (now next) n × Table (now kinds) ⌝ }
     ensures { λ r. ⌜ StateNext (now (text .entry)) held (now (first .entry)) (now (second .entry)) (now (head .entry)) (now (next .entry)) at n r ⌝ }
 {
     let StateLine::State {
         label,
         flag,
         next: after,
-    } = state_line(text, at)
+    } = state_line(kinds, text, at)
     else {
         return NextState::Bad(Reading::NoForm { line: n + 1 });
     };

@@ -23,21 +23,21 @@ enum-told c = search needs
 
 returns : tie.Need-returns
 returns c =
-    let start = c .before .before .before .before in
+    let start = c .before .before .before .before .before in
     transition-no-front (start .args .text .now) (start .args .at) (sym (c .enum-told .given .1) ∙ c .before .before .front-at .ensures)
 
 label-at-requires : tie.Need-label-at-requires
 label-at-requires c κs =
     let here = c .before in
-    let start = here .before .before .before .before in
+    let start = here .before .before .before .before .before in
     let front = sym (here .from .given .1) ∙ here .before .before .front-at .ensures in
-    omega (arith, start .pre, front-far (start .args .text .now) (start .args .at) 84 _ (here .from .given .0 .1 .0) (omega arith) front)
+    (start .pre .0, omega (arith, start .pre .1, front-far (start .args .text .now) (start .args .at) 84 _ (here .from .given .0 .1 .0) (omega arith) front))
 
 returns-2 : tie.Need-returns-2
 unfolding labelOf
 returns-2 c =
     let here = c .before .before .before in
-    let start = here .before .before .before .before in
+    let start = here .before .before .before .before .before in
     let front = sym (here .from .given .1) ∙ here .before .before .front-at .ensures in
     transition-no-label (start .args .text .now) (start .args .at) _ _ front (rw (c .before .label-at .ensures) at (c .if1 .taken))
 
@@ -45,11 +45,11 @@ add-byte-is : tie.Need-add-byte-is
 unfolding labelOf
 add-byte-is c =
     let here = c .before .before .before in
-    let start = here .before .before .before .before in
+    let start = here .before .before .before .before .before in
     let front = sym (here .from .given .1) ∙ here .before .before .front-at .ensures in
     let few : c .before .label-at .result .len ≤ 16 =
     rw (c .before .label-at .ensures) (here-low (drop (here .from .given .0 .1 .0) (start .args .text .now))) in
-    omega (arith, start .pre, front-far (start .args .text .now) (start .args .at) 84 _ (here .from .given .0 .1 .0) (omega arith) front)
+    omega (arith, start .pre .1, front-far (start .args .text .now) (start .args .at) 84 _ (here .from .given .0 .1 .0) (omega arith) front)
 
 byte-is-requires : tie.Need-byte-is-requires
 byte-is-requires c κs = search needs
@@ -58,36 +58,36 @@ returns-3 : tie.Need-returns-3
 unfolding labelOf
 returns-3 c =
     let here = c .before .before .before .before .before in
-    let start = here .before .before .before .before in
+    let start = here .before .before .before .before .before in
     let front = sym (here .from .given .1) ∙ here .before .before .front-at .ensures in
     let feed = rw (c .before .before .before .label-at .ensures) at (if-not (c .before .byte-is .ensures) (c .if2 .taken)) in
     transition-no-feed (start .args .text .now) (start .args .at) _ _ front feed
 
-add-t9 : tie.Need-add-t9
+add-t10 : tie.Need-add-t10
 unfolding labelOf
-add-t9 c =
+add-t10 c =
     let here = c .before .before .before .before .before in
-    let start = here .before .before .before .before in
+    let start = here .before .before .before .before .before in
     let front = sym (here .from .given .1) ∙ here .before .before .front-at .ensures in
     let few : c .before .before .before .label-at .result .len ≤ 16 =
     rw (c .before .before .before .label-at .ensures) (here-low (drop (here .from .given .0 .1 .0) (start .args .text .now))) in
-    omega (arith, start .pre, front-far (start .args .text .now) (start .args .at) 84 _ (here .from .given .0 .1 .0) (omega arith) front)
+    omega (arith, start .pre .1, front-far (start .args .text .now) (start .args .at) 84 _ (here .from .given .0 .1 .0) (omega arith) front)
 
-add-t11 : tie.Need-add-t11
+add-t12 : tie.Need-add-t12
 unfolding labelOf
-add-t11 c =
+add-t12 c =
     let here = c .before .before .before .before .before in
-    let start = here .before .before .before .before in
+    let start = here .before .before .before .before .before in
     let front = sym (here .from .given .1) ∙ here .before .before .front-at .ensures in
     let few : c .before .before .before .label-at .result .len ≤ 16 =
     rw (c .before .before .before .label-at .ensures) (here-low (drop (here .from .given .0 .1 .0) (start .args .text .now))) in
-    omega (arith, start .pre, front-far (start .args .text .now) (start .args .at) 84 _ (here .from .given .0 .1 .0) (omega arith) front)
+    omega (arith, start .pre .1, front-far (start .args .text .now) (start .args .at) 84 _ (here .from .given .0 .1 .0) (omega arith) front)
 
 returns-4 : tie.Need-returns-4
 unfolding labelOf
 returns-4 c =
     let here = c .before .before .before .before .before in
-    let start = here .before .before .before .before in
+    let start = here .before .before .before .before .before in
     let front = sym (here .from .given .1) ∙ here .before .before .front-at .ensures in
     let told = c .before .before .before .label-at .ensures in
     let some = rw told at (c .before .before .if1 .left) in
@@ -107,6 +107,6 @@ transition-line-spec =
     add-byte-is
     byte-is-requires
     returns-3
-    add-t9
-    add-t11
+    add-t10
+    add-t12
     returns-4)

@@ -25,10 +25,10 @@ add-part-at c = search needs
 part-at-requires-2 : tie.Need-part-at-requires-2
 part-at-requires-2 c κs = search needs
 
-add-t8 : tie.Need-add-t8
+add-t9 : tie.Need-add-t9
 unfolding partOf
-add-t8 c =
-    let start = c .before .before .before .before .before in
+add-t9 c =
+    let start = c .before .before .before .before .before .before in
     let few : c .before .part-at2 .result .len ≤ 8 =
     rw (c .before .part-at2 .ensures) (run-low 8 (drop (start .args .at + 8) (start .args .text .now))) in
     omega arith
@@ -36,11 +36,11 @@ add-t8 c =
 returns-2 : tie.Need-returns-2
 unfolding partOf
 returns-2 c =
-    let start = c .before .before .before .before .before in
+    let start = c .before .before .before .before .before .before in
     let begin = c .before .before .before .part-at .ensures in
     let full = rw begin at (c .before .before .if1 .left) in
     rw (begin, c .before .part-at2 .ensures, ← drop-drop 8 (start .args .at) (start .args .text .now)) (label-of-two _ full)
 
 pub label-at-spec : {M : Type 1} → statement M
 label-at-spec =
-    tie.close (tie.spec part-at-requires returns add-part-at part-at-requires-2 add-t8 returns-2)
+    tie.close (tie.spec part-at-requires returns add-part-at part-at-requires-2 add-t9 returns-2)

@@ -14,10 +14,10 @@ use Rattle.lines.proofs.scan.part_at.Statement.{statement}
 use Rattle.lines.proofs.scan.part_at.Tie as tie
 
 abbrev Inv-loop : tie.InvT-loop
-Inv-loop text at len₀ word₀ len word = Taken (drop at text) len word
+Inv-loop kinds text at len₀ word₀ len word = Taken (drop at text) len word
 
 abbrev μ-loop : tie.MeasureT-loop
-μ-loop text at len₀ word₀ len word = 8 - len
+μ-loop kinds text at len₀ word₀ len word = 8 - len
 
 loop-holds : tie.Need-loop-holds Inv-loop μ-loop
 loop-holds c = taken-none _
@@ -33,18 +33,18 @@ returns c =
 shared-slice-read-byte : tie.Need-shared-slice-read-byte Inv-loop μ-loop
 shared-slice-read-byte c = search needs
 
-kind-requires : tie.Need-kind-requires Inv-loop μ-loop
-kind-requires c κs = search needs
+kind-in-requires : tie.Need-kind-in-requires Inv-loop μ-loop
+kind-in-requires c κs = search needs
 
 returns-2 : tie.Need-returns-2 Inv-loop μ-loop
 unfolding inLabel
 returns-2 c =
     let turn = c .before .before .before .before in
     let head = turn .before in
-    let start = head .before .before in
+    let start = head .before .before .before in
     let here = getD-drop (start .args .at) (start .args .text .now) (head .loop .len) 0 in
     let ends : inLabel (getD (drop (start .args .at) (start .args .text .now)) (head .loop .len) 0) ≡ false =
-    rw (here, ← c .before .kind .ensures) (le-ltb _ _ (c .if2 .taken)) in
+    rw (here, ← c .before .kind-in .ensures) (le-ltb _ _ (c .if2 .taken)) in
     taken-all _ _ _ (head .loop .inv) (run-stop 8 (head .loop .len) _ (turn .loop-test .taken) (simp length-drop (omega arith)) ends)
 
 mul-word : tie.Need-mul-word Inv-loop μ-loop
@@ -71,12 +71,12 @@ unfolding inLabel
 loop-again c =
     let turn = c .before .before .before .before .before in
     let head = turn .before in
-    let start = head .before .before in
-    let low = c .before .before .before .shared-slice-known2 .given (start .args .at + head .loop .len) in
+    let start = head .before .before .before in
+    let low = c .before .before .before .shared-slice-known3 .given (start .args .at + head .loop .len) in
     let here = getD-drop (start .args .at) (start .args .text .now) (head .loop .len) 0 in
     rw (c .wide .ensures .0)
     (taken-more _ _ _ (head .loop .inv) _ (turn .loop-test .taken) (simp length-drop (omega arith)) here
-    (rw (← c .before .before .kind .ensures) (lt-ltb _ _ (c .before .if2 .left))) (omega arith))
+    (rw (← c .before .before .kind-in .ensures) (lt-ltb _ _ (c .before .if2 .left))) (omega arith))
 
 returns-3 : tie.Need-returns-3 Inv-loop μ-loop
 returns-3 c = taken-all _ _ _ (c .before .loop .inv) (run-full 8 (c .before .loop .len) _ (c .loop-test .left))
@@ -91,7 +91,7 @@ part-at-spec =
     add-i
     returns
     shared-slice-read-byte
-    kind-requires
+    kind-in-requires
     returns-2
     mul-word
     wide-requires

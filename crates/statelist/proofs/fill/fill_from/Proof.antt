@@ -34,7 +34,7 @@ slice-aggregate-read-transitions-4 c = search needs
 
 -- src/fill.rt:63:11
 read-transitions-requires : tie.Need-read-transitions-requires
-read-transitions-requires c κs = let pre = c .before .before .before .before .before .before .before .before .before .before .before .before .before .pre in
+read-transitions-requires c κs = let pre = c .before .before .before .before .before .before .before .before .before .before .before .before .before .before .pre in
     let held = c .before .before .before .before .before .transitions-held .ensures in (
       pre .0,
       pre .3,
@@ -45,6 +45,7 @@ read-transitions-requires c κs = let pre = c .before .before .before .before .b
       omega (arith, held),
       pre .5,
       listed-none _ _ _ _ _ _ _ _ _ _ _ _ _ (pre .6) refl (pre .1) (pre .2),
+      pre .8,
     )
 
 -- src/fill.rt:64:20
@@ -66,7 +67,7 @@ slice-aggregate-close-2 c = search needs
 -- src/fill.rt:65:38
 close-requires : tie.Need-close-requires
 close-requires c κs = let read = rw (c .before .before .before .before .before .count .given .1) at (c .before .before .before .before .before .before .before .before .before .before .before .before .before .read-transitions .ensures) in
-    let pre = c .before .before .before .before .before .before .before .before .before .before .before .before .before .before .before .before .before .before .before .before .before .before .before .before .before .before .before .pre in
+    let pre = c .before .before .before .before .before .before .before .before .before .before .before .before .before .before .before .before .before .before .before .before .before .before .before .before .before .before .before .before .pre in
     let held = c .before .before .before .before .before .before .before .before .before .before .before .before .before .before .before .before .before .before .before .transitions-held .ensures in (
       λ some.
           listed-buildable _ _ _ _ _ _ _ _ _ _ _ _ _ _ _ _ _ (read .0) (pre .3) (omega (arith, held)) (omega (arith, some, pre .4, c .before .before .before .before .before .before .before .before .before .before .before .before .offsets .given))

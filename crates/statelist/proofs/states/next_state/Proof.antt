@@ -22,12 +22,12 @@ enum-told : tie.Need-enum-told
 enum-told c = search needs
 
 -- src/states.rt:105:55
-add-t13 : tie.Need-add-t13
-add-t13 c = search needs
+add-t14 : tie.Need-add-t14
+add-t14 c = search needs
 
 -- src/states.rt:105:9
 returns : tie.Need-returns
-returns c = λ flags places t d. stop-bad _ _ _ _ _ _ _ _ _ _ d (c .before .before .before .before .before .before .before .before .pre .1) (c .before .before .before .before .before .before .before .before .pre .2) (sym (c .before .before .state-line .ensures) ∙ c .enum-told .given .1) t
+returns c = λ flags places t d. stop-bad _ _ _ _ _ _ _ _ _ _ d (c .before .before .before .before .before .before .before .before .before .pre .1) (c .before .before .before .before .before .before .before .before .before .pre .2) (sym (c .before .before .state-line .ensures) ∙ c .enum-told .given .1) t
 
 -- src/states.rt:107:26
 find-requires : tie.Need-find-requires
@@ -41,8 +41,8 @@ enum-told-3 : tie.Need-enum-told-3
 enum-told-3 c = search needs
 
 -- src/states.rt:108:62
-add-t16 : tie.Need-add-t16
-add-t16 c = search needs
+add-t17 : tie.Need-add-t17
+add-t17 c = search needs
 
 -- src/states.rt:108:9
 returns-2 : tie.Need-returns-2
@@ -51,8 +51,8 @@ returns-2 c = λ flags places t d.
     stop-twice _ _ _ _ _ _ _ _ _ _ d _ _ _ here _ (sym (c .before .before .find .ensures) ∙ c .enum-told3 .given .1) t
 
 -- src/states.rt:111:60
-add-t19 : tie.Need-add-t19
-add-t19 c = search needs
+add-t20 : tie.Need-add-t20
+add-t20 c = search needs
 
 -- src/states.rt:111:9
 returns-3 : tie.Need-returns-3
@@ -75,13 +75,13 @@ next-state-spec =
     state-line-requires
     enum-known-label
     enum-told
-    add-t13
+    add-t14
     returns
     find-requires
     enum-told-2
     enum-told-3
-    add-t16
+    add-t17
     returns-2
-    add-t19
+    add-t20
     returns-3
     returns-4)

@@ -29,14 +29,14 @@ record Inv (text : List ℕ) (held : ℕ) (flags₀ places₀ first₀ second₀
   x-long : length next ≡ length next₀
 
 abbrev Inv-loop : tie.InvT-loop
-Inv-loop text held flags₀ places₀ first₀ second₀ head₀ next₀ at₀ n₀ flags places first second head next at n = Inv text held flags₀ places₀ first₀ second₀ head₀ next₀ flags places first second head next at n
+Inv-loop kinds text held flags₀ places₀ first₀ second₀ head₀ next₀ at₀ n₀ flags places first second head next at n = Inv text held flags₀ places₀ first₀ second₀ head₀ next₀ flags places first second head next at n
 
 abbrev μ-loop : tie.MeasureT-loop
-μ-loop text held flags₀ places₀ first₀ second₀ head₀ next₀ at₀ n₀ flags places first second head next at n = length text - at
+μ-loop kinds text held flags₀ places₀ first₀ second₀ head₀ next₀ at₀ n₀ flags places first second head next at n = length text - at
 
 -- src/states.rt:48:5
 loop-holds : tie.Need-loop-holds Inv-loop μ-loop
-loop-holds c = record { done = c .before .before .before .before .before .before .before .pre .7; f-long = search needs; p-long = search needs; a-long = search needs; b-long = search needs; h-long = search needs; x-long = search needs }
+loop-holds c = record { done = c .before .before .before .before .before .before .before .before .pre .7; f-long = search needs; p-long = search needs; a-long = search needs; b-long = search needs; h-long = search needs; x-long = search needs }
 
 -- src/states.rt:48:11
 begins-state-requires : tie.Need-begins-state-requires Inv-loop μ-loop
@@ -44,11 +44,11 @@ begins-state-requires c κs = search needs
 
 -- src/states.rt:49:15
 next-state-requires : tie.Need-next-state-requires Inv-loop μ-loop
-next-state-requires c κs = let text = c .before .before .before .before .before .before .before .before .before .before .before .before .before .before .args .text .now in
+next-state-requires c κs = let text = c .before .before .before .before .before .before .before .before .before .before .before .before .before .before .before .args .text .now in
     let at = c .before .before .before .before .before .before .loop .at in
     let letter = eqb-true (getD text at 0) 83 (sym (c .before .before .before .before .before .begins-state .ensures) ∙ c .before .before .before .before .if1 .taken) in
     let done = c .before .before .before .before .before .before .loop .inv .done in
-    (c .before .before .before .before .before .before .before .before .before .before .before .before .before .before .pre .0, byte-inside text at 83 (search needs) letter, letter, omega (arith, done .few, c .before .before .before .before .before .before .before .before .before .before .before .before .before .before .pre .1), done .index .chain)
+    (c .before .before .before .before .before .before .before .before .before .before .before .before .before .before .before .pre .0, byte-inside text at 83 (search needs) letter, letter, omega (arith, done .few, c .before .before .before .before .before .before .before .before .before .before .before .before .before .before .before .pre .1), done .index .chain, c .before .before .before .before .before .before .before .before .before .before .before .before .before .before .before .pre .8)
 
 -- src/states.rt:50:28
 enum-known-refusal : tie.Need-enum-known-refusal Inv-loop μ-loop
@@ -95,7 +95,7 @@ add-state-requires : tie.Need-add-state-requires Inv-loop μ-loop
 add-state-requires c κs = let new = rw (c .before .before .before .before .before .before .before .label .given .1) at (c .before .before .before .before .before .before .before .before .before .next-state .ensures) in
     let here = state-here _ _ _ _ _ (new .stands) in
     let inv = c .before .before .before .before .before .before .before .before .before .before .before .before .before .before .before .before .loop .inv in
-    let pre = c .before .before .before .before .before .before .before .before .before .before .before .before .before .before .before .before .before .before .before .before .before .before .before .before .pre in (
+    let pre = c .before .before .before .before .before .before .before .before .before .before .before .before .before .before .before .before .before .before .before .before .before .before .before .before .before .pre in (
       omega (arith, new .room, pre .2, inv .f-long),
       omega (arith, new .room, pre .3, inv .p-long),
       omega (arith, new .room, pre .1),
@@ -109,12 +109,12 @@ add-state-requires c κs = let new = rw (c .before .before .before .before .befo
 
 -- src/states.rt:67:17
 add-n : tie.Need-add-n Inv-loop μ-loop
-add-n c = let new = rw (c .before .before .before .before .before .before .before .before .before .before .before .before .before .before .before .before .before .before .before .before .label .given .1) at (c .before .before .before .before .before .before .before .before .before .before .before .before .before .before .before .before .before .before .before .before .before .before .next-state .ensures) in omega (arith, new .room, c .before .before .before .before .before .before .before .before .before .before .before .before .before .before .before .before .before .before .before .before .before .before .before .before .before .before .before .before .before .before .before .before .before .before .before .before .before .pre .1)
+add-n c = let new = rw (c .before .before .before .before .before .before .before .before .before .before .before .before .before .before .before .before .before .before .before .before .label .given .1) at (c .before .before .before .before .before .before .before .before .before .before .before .before .before .before .before .before .before .before .before .before .before .before .next-state .ensures) in omega (arith, new .room, c .before .before .before .before .before .before .before .before .before .before .before .before .before .before .before .before .before .before .before .before .before .before .before .before .before .before .before .before .before .before .before .before .before .before .before .before .before .before .pre .1)
 
 -- src/states.rt:48:5
 loop-less : tie.Need-loop-less Inv-loop μ-loop
 loop-less c = let new = rw (c .before .before .before .before .before .before .before .before .before .before .before .before .before .before .before .before .before .before .before .before .label .given .1) at (c .before .before .before .before .before .before .before .before .before .before .before .before .before .before .before .before .before .before .before .before .before .before .next-state .ensures) in
-    let text = c .before .before .before .before .before .before .before .before .before .before .before .before .before .before .before .before .before .before .before .before .before .before .before .before .before .before .before .before .before .before .before .before .before .before .before .before .before .args .text .now in
+    let text = c .before .before .before .before .before .before .before .before .before .before .before .before .before .before .before .before .before .before .before .before .before .before .before .before .before .before .before .before .before .before .before .before .before .before .before .before .before .before .args .text .now in
     let at = c .before .before .before .before .before .before .before .before .before .before .before .before .before .before .before .before .before .before .before .before .before .before .before .before .before .before .before .before .before .loop .at in
     let letter = eqb-true (getD text at 0) 83 (sym (c .before .before .before .before .before .before .before .before .before .before .before .before .before .before .before .before .before .before .before .before .before .before .before .before .before .before .before .before .begins-state .ensures) ∙ c .before .before .before .before .before .before .before .before .before .before .before .before .before .before .before .before .before .before .before .before .before .before .before .before .before .before .before .if1 .taken) in
     omega (arith, byte-inside text at 83 (search needs) letter, state-past _ _ _ _ _ (state-here _ _ _ _ _ (new .stands)))
@@ -124,7 +124,7 @@ loop-again : tie.Need-loop-again Inv-loop μ-loop
 loop-again c = let new = rw (c .before .before .before .before .before .before .before .before .before .before .before .before .before .before .before .before .before .before .before .before .label .given .1) at (c .before .before .before .before .before .before .before .before .before .before .before .before .before .before .before .before .before .before .before .before .before .before .next-state .ensures) in
     let here = state-here _ _ _ _ _ (new .stands) in
     let inv = c .before .before .before .before .before .before .before .before .before .before .before .before .before .before .before .before .before .before .before .before .before .before .before .before .before .before .before .before .before .loop .inv in
-    let pre = c .before .before .before .before .before .before .before .before .before .before .before .before .before .before .before .before .before .before .before .before .before .before .before .before .before .before .before .before .before .before .before .before .before .before .before .before .before .pre in
+    let pre = c .before .before .before .before .before .before .before .before .before .before .before .before .before .before .before .before .before .before .before .before .before .before .before .before .before .before .before .before .before .before .before .before .before .before .before .before .before .before .pre in
     let put = c .before .before .before .before .before .before .before .before .before .before .before .before .add-state .ensures in
     record {
       done =
