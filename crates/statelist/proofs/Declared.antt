@@ -42,13 +42,13 @@ unfolding statesIn
 states-long text flags places n = tab-long 0 n _
 
 -- the label of a state that was found is short
-pub label-short : (left : List ℕ) (at : ℕ) (l : Label) (flag after : ℕ) → StateHere left at l flag after → l .len ≤ 16
+pub label-short : {left : List ℕ} {at : ℕ} {l : Label} {flag after : ℕ} → StateHere left at l flag after → l .len ≤ 16
 unfolding labelOf
-label-short left at l flag after here = rw (here .label-is) (label-long _ (state-label _ (here .is)))
+label-short here = rw (here .label-is) (label-long _ (state-label _ (here .is)))
 
 -- the next line starts further on
-pub state-past : (left : List ℕ) (at : ℕ) (l : Label) (flag after : ℕ) → StateHere left at l flag after → at < after
-state-past left at l flag after here = omega (arith, here .next-is)
+pub state-past : {left : List ℕ} {at : ℕ} {l : Label} {flag after : ℕ} → StateHere left at l flag after → at < after
+state-past here = omega (arith, here .next-is)
 
 pub declared-none : (text : List ℕ) (held : ℕ) (flags places first second head next : List ℕ)
     → flags ≡ zeros (length flags) → places ≡ zeros (length places) → head ≡ zeros buckets
@@ -57,14 +57,14 @@ unfolding statesIn tab
 declared-none text held flags places first second head next flags-none places-none head-none =
     record {
       same = λ t. refl;
-      index = index-none text places first second head next (chain-none first second head next head-none);
+      index = index-none (chain-none first second head next head-none);
       few = omega arith;
       in-text = omega arith;
       flags-blank = blank-zeros flags 0 flags-none;
       places-blank = blank-zeros places (2 * 0) places-none;
     }
 
-module _ (text : List ℕ) (held : ℕ) (flags places first second head next : List ℕ) (at n : ℕ)
+module _ {text : List ℕ} {held : ℕ} {flags places first second head next : List ℕ} {at n : ℕ}
     (d : Declared text held flags places first second head next at n) where
   abbrev states : List State
   states = statesIn text flags places n
@@ -72,7 +72,8 @@ module _ (text : List ℕ) (held : ℕ) (flags places first second head next : L
   number-is : suc (length states + 0) ≡ n + 1
   number-is = let k = states-long text flags places n in omega arith
 
-  refuse : (r : Reading) (t number : ℕ) → told r ≡ refusal number (n + 1) → from-here (roomFor held t) text at states [] ≡ refused number (suc (length states + 0))
+  refuse : (r : Reading) (t number : ℕ) → told r ≡ refusal number (n + 1)
+      → from-here (roomFor held t) text at states [] ≡ refused number (suc (length states + 0))
       → Refused r (from-here (roomFor held t) text 0 [] [])
   refuse r t number tells e =
       record { number = number; line = n + 1; tells = tells; is = sym (d .same t) ∙ e ∙ ap (refused number) number-is }
@@ -82,7 +83,7 @@ module _ (text : List ℕ) (held : ℕ) (flags places first second head next : L
   stop-bad h letter e t =
       refuse (NoForm (n + 1)) t 2 refl (state-bad (roomFor held t) text at states h letter e)
 
-  module _ (l : Label) (flag after : ℕ) (here : StateHere (drop at text) at l flag after) where
+  module _ {l : Label} {flag after : ℕ} (here : StateHere (drop at text) at l flag after) where
     abbrev label : List ℕ
     label = field 1 (firstLine (drop at text))
 
@@ -93,9 +94,9 @@ module _ (text : List ℕ) (held : ℕ) (flags places first second head next : L
         → Refused (DeclaredTwice (n + 1)) (from-here (roomFor held t) text 0 [] [])
     unfolding labelOf
     stop-twice i e t =
-        let known = label-known text flags places first second head next n (d .index) label is-label i (rw (here .label-is) at e) in
+        let known = label-known (d .index) label is-label flags i (rw (here .label-is) at e) in
         refuse (DeclaredTwice (n + 1)) t 3 refl
-        (state-twice (roomFor held t) text at states l flag after here known)
+        (state-twice (roomFor held t) text at states here known)
 
     module _ (none : found (isPair first second (l .first) (l .second)) n ≡ Nothing) where
       none′ : found (isPair first second (firstWord label) (secondWord label)) n ≡ Nothing
@@ -103,12 +104,12 @@ module _ (text : List ℕ) (held : ℕ) (flags places first second head next : L
       none′ = rw (here .label-is) at none
 
       unknown : declared label states ≡ false
-      unknown = label-unknown text flags places first second head next n (d .index) label is-label none′
+      unknown = label-unknown (d .index) label is-label flags none′
 
       pub stop-full : held ≤ n → (t : ℕ) → Refused (NoStateRoom (n + 1)) (from-here (roomFor held t) text 0 [] [])
       stop-full h t =
           refuse (NoStateRoom (n + 1)) t 6 refl
-          (state-full (roomFor held t) text at states l flag after here unknown
+          (state-full (roomFor held t) text at states here unknown
           (rw (states-long text flags places n) h))
 
       pub declared-more : n < held → held ≤ length flags → 2 * held ≤ length places → held ≤ length first → held ≤ length second → held ≤ length next
@@ -119,14 +120,14 @@ module _ (text : List ℕ) (held : ℕ) (flags places first second head next : L
           rw (here .label-is, here .flag-is)
           (record {
             same = λ t.
-                rw (states-more text flags places n (at + 2) (length label) (flagOf line) room (omega arith), stands)
+                rw (states-more text places n (at + 2) (length label) room flags (flagOf line) (omega arith), stands)
                 (sym
-                (state-more (roomFor held t) text at states l flag after here unknown
+                (state-more (roomFor held t) text at states here unknown
                 (rw (states-long text flags places n) h)) ∙ d .same t);
             index =
-                index-more text flags places n (at + 2) (length label) (flagOf line) room first second head next label (d .index)
+                index-more text places n (at + 2) (length label) room (d .index)
                 (omega arith) (omega arith) (omega arith) is-label stands refl
-                (asked-not text flags places first second head next n (d .index) label is-label none′);
+                (asked-not (d .index) label is-label none′);
             few = omega arith;
             in-text = let i = ended-inside (drop at text) (here .whole) in omega (arith, length-drop at text, here .next-is, d .in-text);
             flags-blank = subst (Blank (set flags n (flagOf line))) (omega arith) (blank-set flags n n (flagOf line) (d .flags-blank) (omega arith));

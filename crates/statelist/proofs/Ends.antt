@@ -112,11 +112,11 @@ module _ (text : List ℕ) (held heldT : ℕ) (flags places first second head ne
       (rw (states-long text flags places n, transitions-long from to e) cc)
 
 -- what the lists of the graph are built from
-pub listed-buildable : (text : List ℕ) (held n start : ℕ) (first second head next counted from to last prev offsets targets : List ℕ) (at e : ℕ)
+pub listed-buildable : {text : List ℕ} {held n start : ℕ} {first second head next counted from to last prev offsets targets : List ℕ} {at e : ℕ}
     → Listed text held n start first second head next counted from to last prev at e
     → n ≤ most-states → held ≤ most-transitions → n < length offsets → held ≤ length targets → held ≤ length from → held ≤ length to
     → targets ≡ zeros (length targets) → Buildable from to offsets targets e n
-listed-buildable text held n start first second head next counted from to last prev offsets targets at e l few-n few-held in-offsets in-targets in-from in-to blank =
+listed-buildable l few-n few-held in-offsets in-targets in-from in-to blank =
     record {
       few-states = few-n;
       few-transitions = omega (arith, l .few);

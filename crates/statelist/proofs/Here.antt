@@ -39,20 +39,25 @@ pub record StateHere (left : List ℕ) (at : ℕ) (l : Label) (flag next : ℕ) 
   pub flag-is : flag ≡ flagOf (firstLine left)
   pub next-is : next ≡ pastLine at (firstLine left)
 
-pub state-here : (left : List ℕ) (at : ℕ) (l : Label) (flag next : ℕ) → stateFound at left ≡ State l flag next → StateHere left at l flag next
+pub state-here : {left : List ℕ} {at : ℕ} {l : Label} {flag next : ℕ} → stateFound at left ≡ State l flag next → StateHere left at l flag next
 unfolding stateFound
-state-here left at l flag next e = go (either (ended left && isState (firstLine left)))
+state-here {left} {at} {l} {flag} {next} e = go (either (ended left && isState (firstLine left)))
   where
     go : ((ended left && isState (firstLine left)) ≡ true) ⊎ ((ended left && isState (firstLine left)) ≡ false) → StateHere left at l flag next
     go (inl b) =
-        let parts = and-cases (ended left) (isState (firstLine left)) b in
-        let e′ : State (labelOf (field 1 (firstLine left))) (flagOf (firstLine left)) (pastLine at (firstLine left)) ≡ State l flag next = rw b at e in
+        let line = firstLine left in
+        let parts = and-cases (ended left) (isState line) b in
+        let e′ : State (labelOf (field 1 line)) (flagOf line) (pastLine at line) ≡ State l flag next = rw b at e in
         record { whole = parts .0; is = parts .1; label-is = cc; flag-is = cc; next-is = cc }
     go (inr b) = let e′ : NoState ≡ State l flag next = rw b at e in let z : _≡_ {A = ℕ} 0 1 = cc in absurd (omega arith)
 
 pub state-none : (left : List ℕ) (at : ℕ) → stateFound at left ≡ NoState → ended left ≡ true → isState (firstLine left) ≡ false
 unfolding stateFound
-state-none left at e w = not-both (λ b. let e′ : State (labelOf (field 1 (firstLine left))) (flagOf (firstLine left)) (pastLine at (firstLine left)) ≡ NoState = rw (w, b) at e in let z : _≡_ {A = ℕ} 0 1 = cc in omega arith)
+state-none left at e w =
+    not-both (λ b.
+    let line = firstLine left in
+    let e′ : State (labelOf (field 1 line)) (flagOf line) (pastLine at line) ≡ NoState = rw (w, b) at e in
+    let z : _≡_ {A = ℕ} 0 1 = cc in omega arith)
 
 -- and so the transition
 pub record TransitionHere (left : List ℕ) (at : ℕ) (from to : Label) (next : ℕ) : Type 0 where
@@ -62,10 +67,10 @@ pub record TransitionHere (left : List ℕ) (at : ℕ) (from to : Label) (next :
   pub to-is : to ≡ labelOf (field 2 (firstLine left))
   pub next-is : next ≡ pastLine at (firstLine left)
 
-pub transition-here : (left : List ℕ) (at : ℕ) (from to : Label) (next : ℕ)
+pub transition-here : {left : List ℕ} {at : ℕ} {from to : Label} {next : ℕ}
     → transitionFound at left ≡ Transition from to next → TransitionHere left at from to next
 unfolding transitionFound
-transition-here left at from to next e = go (either (ended left && isTransition (firstLine left)))
+transition-here {left} {at} {from} {to} {next} e = go (either (ended left && isTransition (firstLine left)))
   where
     go : ((ended left && isTransition (firstLine left)) ≡ true) ⊎ ((ended left && isTransition (firstLine left)) ≡ false)
         → TransitionHere left at from to next
@@ -105,32 +110,37 @@ rest-read : (rooms : Rooms) (left : List ℕ) (seen : Seen) → ended left ≡ f
 unfolding readLines
 rest-read rooms left seen e = rw (pieces-rest left e)
 
-module _ (rooms : Rooms) (bytes : List ℕ) (at : ℕ) (states : List text.State) (transitions : List text.Transition) where
-  abbrev pub seen : Seen
-  seen = record { line = suc (length states + length transitions); at = at; states = states; transitions = transitions }
+-- what was read up to a place, a line for each record
+abbrev pub seen-at : ℕ → List text.State → List text.Transition → Seen
+seen-at at states transitions = record { line = suc (length states + length transitions); at = at; states = states; transitions = transitions }
 
+module _ (rooms : Rooms) (bytes : List ℕ) (at : ℕ) (states : List text.State) (transitions : List text.Transition) where
   abbrev left : List ℕ
   left = drop at bytes
 
-  pub refused-here : (number line : ℕ) → ended left ≡ true → oneLine rooms (firstLine left) seen ≡ refused number line
+  abbrev seen : Seen
+  seen = seen-at at states transitions
+
+  refused-here : {number line : ℕ} → ended left ≡ true → oneLine rooms (firstLine left) seen ≡ refused number line
       → from-here rooms bytes at states transitions ≡ refused number line
   unfolding from-here
-  refused-here number line w e = line-read rooms left seen w ∙ ap (λ m. thenOn m (after rooms left)) e
+  refused-here w e = line-read rooms left seen w ∙ ap (λ m. thenOn m (after rooms left)) e
 
-  pub read-here : (states′ : List text.State) (transitions′ : List text.Transition) (next : ℕ)
+  read-here : (states′ : List text.State) (transitions′ : List text.Transition) (next : ℕ)
       → ended left ≡ true → next ≡ pastLine at (firstLine left)
-      → oneLine rooms (firstLine left) seen
-      ≡ reads (record { line = suc (length states′ + length transitions′); at = next; states = states′; transitions = transitions′ })
+      → oneLine rooms (firstLine left) seen ≡ reads (seen-at next states′ transitions′)
       → from-here rooms bytes at states transitions ≡ from-here rooms bytes next states′ transitions′
   unfolding from-here
   read-here states′ transitions′ next w q e =
-      let seen′ : Seen = record { line = suc (length states′ + length transitions′); at = next; states = states′; transitions = transitions′ } in
       let there : at + suc (length (firstLine left)) ≡ next = omega arith in
       let past : drop (suc (length (firstLine left))) left ≡ drop next bytes = drop-drop _ at bytes ∙ ap (λ k. drop k bytes) there in
-      line-read rooms left seen w ∙ ap (λ m. thenOn m (after rooms left)) e ∙ ap (λ l. readLines rooms (pieces l) seen′) past
+      line-read rooms left seen w ∙ ap (λ m. thenOn m (after rooms left)) e ∙ ap (λ l. readLines rooms (pieces l) (seen-at next states′ transitions′)) past
 
-abbrev at-place : (at line : ℕ) → List text.State → List text.Transition → Seen
-at-place at line states transitions = record { line = line; at = at; states = states; transitions = transitions }
+-- the line after it: its number and its place
+moved : {at at′ line line′ : ℕ} {states : List text.State} {transitions : List text.Transition} → at ≡ at′ → line ≡ line′
+    → reads (record { line = line; at = at; states = states; transitions = transitions })
+    ≡ reads (record { line = line′; at = at′; states = states; transitions = transitions })
+moved e q = rw (e, q)
 
 first-byte : (bytes : List ℕ) (at : ℕ) → getD (drop at bytes) 0 0 ≡ getD bytes at 0
 first-byte bytes at = getD-drop at bytes 0 0 ∙ ap (λ i. getD bytes i 0) (add-zero at)
@@ -149,23 +159,24 @@ module _ (rooms : Rooms) (bytes : List ℕ) (at : ℕ) (states : List text.State
   unfolding oneLine atEnd from-here
   state-bad h letter e = go (either (ended (drop at bytes)))
     where
-      go : (ended (drop at bytes) ≡ true) ⊎ (ended (drop at bytes) ≡ false) → from-here rooms bytes at states [] ≡ refused 2 (suc (length states + 0))
+      go : (ended (drop at bytes) ≡ true) ⊎ (ended (drop at bytes) ≡ false)
+          → from-here rooms bytes at states [] ≡ refused 2 (suc (length states + 0))
       go (inl w) =
           let not-t : getD (drop at bytes) 0 0 ≢ 84 = λ q. let z = sym (first-byte bytes at) in omega arith in
-          refused-here rooms bytes at states [] 2 _ w (rw (state-none (drop at bytes) at e w, letter-transition (drop at bytes) not-t))
-      go (inr w) = rest-read rooms (drop at bytes) (seen rooms bytes at states []) w ∙ rw (nil-some (drop at bytes) (left-some bytes at h))
+          refused-here rooms bytes at states [] w (rw (state-none (drop at bytes) at e w, letter-transition (drop at bytes) not-t))
+      go (inr w) = rest-read rooms (drop at bytes) (seen-at at states []) w ∙ rw (nil-some (drop at bytes) (left-some bytes at h))
 
-  module _ (l : Label) (flag next : ℕ) (found : StateHere (drop at bytes) at l flag next) where
+  module _ {l : Label} {flag next : ℕ} (found : StateHere (drop at bytes) at l flag next) where
     -- refused as 3
     pub state-twice : declared (field 1 here) states ≡ true → from-here rooms bytes at states [] ≡ refused 3 (suc (length states + 0))
     unfolding oneLine stateLine isNil
-    state-twice d = refused-here rooms bytes at states [] 3 _ (found .whole) (rw (found .is, d))
+    state-twice d = refused-here rooms bytes at states [] (found .whole) (rw (found .is, d))
 
     -- refused as 6
     pub state-full : declared (field 1 here) states ≡ false → rooms .for-states ≤ length states
         → from-here rooms bytes at states [] ≡ refused 6 (suc (length states + 0))
     unfolding oneLine stateLine isNil
-    state-full d h = refused-here rooms bytes at states [] 6 _ (found .whole) (rw (found .is, d, le-leb _ _ h))
+    state-full d h = refused-here rooms bytes at states [] (found .whole) (rw (found .is, d, le-leb _ _ h))
 
     pub state-more : declared (field 1 here) states ≡ false → length states < rooms .for-states
         → from-here rooms bytes at states []
@@ -175,9 +186,8 @@ module _ (rooms : Rooms) (bytes : List ℕ) (at : ℕ) (states : List text.State
         let state : text.State = record { label = field 1 here; start = at + 2; flag = flagOf here } in
         let states′ : List text.State = states ++ (state ∷ []) in
         let number : suc (suc (length states + 0)) ≡ suc (length states′ + 0) = rw (length-append states (state ∷ [])) (omega arith) in
-        let to-next : pastLine at here ≡ next = sym (found .next-is) in
         read-here rooms bytes at states [] states′ [] next (found .whole) (found .next-is)
-        (rw (found .is, d, lt-leb _ _ h) (ap (λ k. reads (at-place (pastLine at here) k states′ [])) number ∙ ap (λ a. reads (at-place a (suc (length states′ + 0)) states′ [])) to-next))
+        (rw (found .is, d, lt-leb _ _ h) (moved (sym (found .next-is)) number))
 
 -- T lines
 module _ (rooms : Rooms) (bytes : List ℕ) (at : ℕ) (states : List text.State) (transitions : List text.Transition) where
@@ -193,19 +203,20 @@ module _ (rooms : Rooms) (bytes : List ℕ) (at : ℕ) (states : List text.State
     where
       no-state : isState this ≡ false → ended (drop at bytes) ≡ true
           → from-here rooms bytes at states transitions ≡ refused 2 (suc (length states + length transitions))
-      no-state s w = refused-here rooms bytes at states transitions 2 _ w (rw (s, transition-none (drop at bytes) at e w))
+      no-state s w = refused-here rooms bytes at states transitions w (rw (s, transition-none (drop at bytes) at e w))
 
       go : (ended (drop at bytes) ≡ true) ⊎ (ended (drop at bytes) ≡ false) → (isNil transitions ≡ false) ⊎ (getD bytes at 0 ≢ 83)
           → from-here rooms bytes at states transitions ≡ refused 2 (suc (length states + length transitions))
-      go (inr w) late = rest-read rooms (drop at bytes) (seen rooms bytes at states transitions) w ∙ rw (nil-some (drop at bytes) (left-some bytes at h))
+      go (inr w) late = rest-read rooms (drop at bytes) (seen-at at states transitions) w ∙ rw (nil-some (drop at bytes) (left-some bytes at h))
       go (inl w) (inr ne) = no-state (letter-state (drop at bytes) (λ q. ne (sym (first-byte bytes at) ∙ q))) w
       go (inl w) (inl some) = pick (either (isState this))
         where
-          pick : (isState this ≡ true) ⊎ (isState this ≡ false) → from-here rooms bytes at states transitions ≡ refused 2 (suc (length states + length transitions))
-          pick (inl s) = refused-here rooms bytes at states transitions 2 _ w (rw (s, some))
+          pick : (isState this ≡ true) ⊎ (isState this ≡ false)
+              → from-here rooms bytes at states transitions ≡ refused 2 (suc (length states + length transitions))
+          pick (inl s) = refused-here rooms bytes at states transitions w (rw (s, some))
           pick (inr s) = no-state s w
 
-  module _ (from to : Label) (next : ℕ) (found : TransitionHere (drop at bytes) at from to next) where
+  module _ {from to : Label} {next : ℕ} (found : TransitionHere (drop at bytes) at from to next) where
     abbrev line-number : ℕ
     line-number = suc (length states + length transitions)
 
@@ -216,33 +227,32 @@ module _ (rooms : Rooms) (bytes : List ℕ) (at : ℕ) (states : List text.State
     pub transition-unknown : (declared (field 1 this) states && declared (field 2 this) states) ≡ false
         → from-here rooms bytes at states transitions ≡ refused 4 line-number
     unfolding oneLine transitionLine
-    transition-unknown d = refused-here rooms bytes at states transitions 4 _ (found .whole) (rw (no-state, found .is, d))
+    transition-unknown d = refused-here rooms bytes at states transitions (found .whole) (rw (no-state, found .is, d))
 
     module _ (known : (declared (field 1 this) states && declared (field 2 this) states) ≡ true) where
       -- refused as 5
-      pub transition-twice : stood (transitionOf this states) transitions ≡ true → from-here rooms bytes at states transitions ≡ refused 5 line-number
+      pub transition-twice : stood (transitionOf this states) transitions ≡ true
+          → from-here rooms bytes at states transitions ≡ refused 5 line-number
       unfolding oneLine transitionLine
-      transition-twice d = refused-here rooms bytes at states transitions 5 _ (found .whole) (rw (no-state, found .is, known, d))
+      transition-twice d = refused-here rooms bytes at states transitions (found .whole) (rw (no-state, found .is, known, d))
 
       -- refused as 7
       pub transition-full : stood (transitionOf this states) transitions ≡ false → rooms .for-transitions ≤ length transitions
           → from-here rooms bytes at states transitions ≡ refused 7 line-number
       unfolding oneLine transitionLine
-      transition-full d h = refused-here rooms bytes at states transitions 7 _ (found .whole) (rw (no-state, found .is, known, d, le-leb _ _ h))
+      transition-full d h = refused-here rooms bytes at states transitions (found .whole) (rw (no-state, found .is, known, d, le-leb _ _ h))
 
       pub transition-more : stood (transitionOf this states) transitions ≡ false → length transitions < rooms .for-transitions
           → from-here rooms bytes at states transitions ≡ from-here rooms bytes next states (transitions ++ (transitionOf this states ∷ []))
       unfolding oneLine transitionLine withTransition
       transition-more d h =
           let transitions′ : List text.Transition = transitions ++ (transitionOf this states ∷ []) in
-          let number : suc line-number ≡ suc (length states + length transitions′) = rw (length-append transitions (transitionOf this states ∷ [])) (omega arith) in
-          let to-next : pastLine at this ≡ next = sym (found .next-is) in
+          let number : suc line-number ≡ suc (length states + length transitions′) =
+              rw (length-append transitions (transitionOf this states ∷ [])) (omega arith) in
           read-here rooms bytes at states transitions states transitions′ next (found .whole) (found .next-is)
-          (rw (no-state, found .is, known, d, lt-leb _ _ h)
-          (ap (λ k. reads (at-place (pastLine at this) k states transitions′)) number
-          ∙ ap (λ a. reads (at-place a (suc (length states + length transitions′)) states transitions′)) to-next))
+          (rw (no-state, found .is, known, d, lt-leb _ _ h) (moved (sym (found .next-is)) number))
 
   -- the end of the text: refused as 8, or read
-  pub end-here : length bytes ≤ at → from-here rooms bytes at states transitions ≡ atEnd [] (seen rooms bytes at states transitions)
+  pub end-here : length bytes ≤ at → from-here rooms bytes at states transitions ≡ atEnd [] (seen-at at states transitions)
   unfolding from-here readLines cut
   end-here h = rw (drop-of-length-le bytes h)

@@ -28,7 +28,8 @@ use Rattle.statelist.specs.Labels.{labelAt}
 use Rattle.statelist.specs.Loops.{stateAt, statesIn, Index}
 
 -- the number of a state among n: the first one with the label
-number-from : (l : List ℕ) (f : ℕ → State) (k n i : ℕ) → i < n → f (k + i) .label ≡ l → ((j : ℕ) → j < i → f (k + j) .label ≢ l) → numberOf l (tab k n f) ≡ i
+number-from : (l : List ℕ) (f : ℕ → State) (k n i : ℕ) → i < n → f (k + i) .label ≡ l → ((j : ℕ) → j < i → f (k + j) .label ≢ l)
+    → numberOf l (tab k n f) ≡ i
 unfolding numberOf tab
 number-from l f k zero i h e ne = absurd (omega arith)
 number-from l f k (suc n) zero h e ne = let here : l ≡ f k .label = sym (rw (add-zero k) at e) in rw (eq-same l (f k .label) here)
@@ -38,7 +39,8 @@ number-from l f k (suc n) (suc i) h e ne =
     rw (ne-same l (f k .label) other)
     (ap suc (number-from l f (suc k) n i (omega arith) (rw (past i) e) (λ j b. rw (past j) (ne (suc j) (omega arith)))))
 
-module _ (text flags places first second head next : List ℕ) (n : ℕ) (x : Index text places first second head next n) (l : List ℕ) (is : isLabel l ≡ true) where
+module _ {text places first second head next : List ℕ} {n : ℕ} (x : Index text places first second head next n)
+    (l : List ℕ) (is : isLabel l ≡ true) where
   abbrev asked : ℕ → Bool
   asked = isPair first second (firstWord l) (secondWord l)
 
@@ -60,17 +62,17 @@ module _ (text flags places first second head next : List ℕ) (n : ℕ) (x : In
   pub asked-not : found asked n ≡ Nothing → (i : ℕ) → i < n → labelAt text places i ≢ l
   asked-not q i h e = clash (label-asked i h e) (found-nothing asked n q i h)
 
-  pub label-unknown : found asked n ≡ Nothing → declared l (statesIn text flags places n) ≡ false
+  pub label-unknown : (flags : List ℕ) → found asked n ≡ Nothing → declared l (statesIn text flags places n) ≡ false
   unfolding declared statesIn stateAt
-  label-unknown q = any-found-nothing asked _ _ n q (λ i h e. ne-same l _ (λ s. asked-not q i h (sym s)))
+  label-unknown flags q = any-found-nothing asked _ _ n q (λ i h e. ne-same l _ (λ s. asked-not q i h (sym s)))
 
-  pub label-known : (i : ℕ) → found asked n ≡ At i → declared l (statesIn text flags places n) ≡ true
+  pub label-known : (flags : List ℕ) (i : ℕ) → found asked n ≡ At i → declared l (statesIn text flags places n) ≡ true
   unfolding declared statesIn stateAt
-  label-known i q = any-found-at asked _ _ n i q (λ e. eq-same l _ (sym (asked-label i (found-at asked n i q .0) e)))
+  label-known flags i q = any-found-at asked _ _ n i q (λ e. eq-same l _ (sym (asked-label i (found-at asked n i q .0) e)))
 
-  pub label-number : (i : ℕ) → found asked n ≡ At i → numberOf l (statesIn text flags places n) ≡ i
+  pub label-number : (flags : List ℕ) (i : ℕ) → found asked n ≡ At i → numberOf l (statesIn text flags places n) ≡ i
   unfolding statesIn stateAt
-  label-number i q =
+  label-number flags i q =
       let at = found-at asked n i q in
       let is-i = asked-label i (at .0) (at .1) in
       number-from l (stateAt text flags places) 0 n i (at .0) (rw (zero-add i) is-i)
@@ -79,8 +81,8 @@ module _ (text flags places first second head next : List ℕ) (n : ℕ) (x : In
       let one = x .differ j i (omega (arith, at .0)) (at .0) (is-j ∙ sym is-i) in
       omega arith)
 
-pub index-none : (text places first second head next : List ℕ) → Chain first second head next 0 → Index text places first second head next 0
-index-none text places first second head next c =
+pub index-none : {text places first second head next : List ℕ} → Chain first second head next 0 → Index text places first second head next 0
+index-none c =
     record {
       chain = c;
       labels = λ i h. absurd (omega arith);
@@ -91,7 +93,7 @@ index-none text places first second head next c =
     }
 
 -- the place of state n, stored, which leaves the labels below n as they are
-module _ (text flags places : List ℕ) (n start len flag : ℕ) (room : 2 * n + 1 < length places) where
+module _ (text places : List ℕ) (n start len : ℕ) (room : 2 * n + 1 < length places) where
   abbrev pub places′ : List ℕ
   places′ = set (set places (2 * n) start) (2 * n + 1) len
 
@@ -115,21 +117,29 @@ module _ (text flags places : List ℕ) (n start len flag : ℕ) (room : 2 * n +
   label-old i h = rw (other-place (2 * i) (λ e. omega arith) (λ e. omega arith), other-place (2 * i + 1) (λ e. omega arith) (λ e. omega arith))
 
   -- the states with the new one
-  pub states-more : n < length flags
+  pub states-more : (flags : List ℕ) (flag : ℕ) → n < length flags
       → statesIn text (set flags n flag) places′ (n + 1)
       ≡ statesIn text flags places n ++ (record { label = take len (drop start text); start = start; flag = flag } ∷ [])
   unfolding statesIn stateAt
-  states-more in-flags =
+  states-more flags flag in-flags =
       let old : (i : ℕ) → i < n → stateAt text (set flags n flag) places′ i ≡ stateAt text flags places i =
       λ i h. rw (label-old i h, other-place (2 * i) (λ e. omega arith) (λ e. omega arith), getD-set-other flags n i flag 0 (λ e. omega arith)) in
-      rw (add-one n, tab-more 0 n (stateAt text (set flags n flag) places′), tab-ext n _ _ old, zero-add n, label-new, start-new, getD-set-same flags n flag 0 in-flags)
+      rw (
+        add-one n,
+        tab-more 0 n (stateAt text (set flags n flag) places′),
+        tab-ext n _ _ old,
+        zero-add n,
+        label-new,
+        start-new,
+        getD-set-same flags n flag 0 in-flags,
+      )
 
-  pub index-more : (first second head next : List ℕ) (l : List ℕ) → Index text places first second head next n
+  pub index-more : {first second head next l : List ℕ} → Index text places first second head next n
       → n < length first → n < length second → n < length next → isLabel l ≡ true → take len (drop start text) ≡ l → length l ≡ len
       → ((i : ℕ) → i < n → labelAt text places i ≢ l)
       → Index text places′ (set first n (firstWord l)) (set second n (secondWord l)) (set head (bucketOf (firstWord l) (secondWord l)) (n + 1))
       (set next n (getD head (bucketOf (firstWord l) (secondWord l)) 0)) (n + 1)
-  index-more first second head next l x in-first in-second in-next is there long new =
+  index-more {first} {second} {head} {next} {l} x in-first in-second in-next is there long new =
       record {
         chain = chain-more first second n (firstWord l) (secondWord l) head next (x .chain) in-first in-second in-next;
         labels = λ i h. each (λ m. isLabel m ≡ true) (λ i k. x .labels i k) is i h (same? i n);
@@ -142,7 +152,8 @@ module _ (text flags places : List ℕ) (n start len flag : ℕ) (room : 2 * n +
       label-n : labelAt text places′ n ≡ l
       label-n = label-new ∙ there
 
-      each : (Q : List ℕ → Type 0) → ((i : ℕ) → i < n → Q (labelAt text places i)) → Q l → (i : ℕ) → i < n + 1 → (i ≡ n) ⊎ (i ≢ n) → Q (labelAt text places′ i)
+      each : (Q : List ℕ → Type 0) → ((i : ℕ) → i < n → Q (labelAt text places i)) → Q l
+          → (i : ℕ) → i < n + 1 → (i ≡ n) ⊎ (i ≢ n) → Q (labelAt text places′ i)
       each Q old last i h (inl e) = rw (e, label-n) last
       each Q old last i h (inr ne) = rw (label-old i (omega arith)) (old i (omega arith))
 
@@ -159,7 +170,8 @@ module _ (text flags places : List ℕ) (n start len flag : ℕ) (room : 2 * n +
       second-at i h (inl e) = rw (e, label-n) (getD-set-same second n _ 0 in-second)
       second-at i h (inr ne) = rw (label-old i (omega arith)) (getD-set-other second n i _ 0 ne ∙ x .seconds i (omega arith))
 
-      apart : (i j : ℕ) → i < n + 1 → j < n + 1 → labelAt text places′ i ≡ labelAt text places′ j → (i ≡ n) ⊎ (i ≢ n) → (j ≡ n) ⊎ (j ≢ n) → i ≡ j
+      apart : (i j : ℕ) → i < n + 1 → j < n + 1 → labelAt text places′ i ≡ labelAt text places′ j
+          → (i ≡ n) ⊎ (i ≢ n) → (j ≡ n) ⊎ (j ≢ n) → i ≡ j
       apart i j h k e (inl a) (inl b) = a ∙ sym b
       apart i j h k e (inl a) (inr b) = absurd (new j (omega arith) (sym (label-old j (omega arith)) ∙ sym e ∙ ap (labelAt text places′) a ∙ label-n))
       apart i j h k e (inr a) (inl b) = absurd (new i (omega arith) (sym (label-old i (omega arith)) ∙ e ∙ ap (labelAt text places′) b ∙ label-n))

@@ -1,4 +1,5 @@
--- Laws of what a text means and of the four lists, then of the loops that read it and build them.
+-- The cases of 01; laws of what a text means and of the four lists; then of the loops that read it and build them.
+pub mod Cases
 pub mod Nil
 pub mod Zeros
 pub mod Targets
@@ -16,4 +17,3 @@ pub mod Listed
 pub mod Summing
 pub mod Placing
 pub mod Ends
-pub mod Cases

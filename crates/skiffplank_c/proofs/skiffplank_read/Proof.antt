@@ -1,39 +1,31 @@
-use Rattle.skiffplank_c.proofs.Fits.{read-fits}
-use Rattle.skiffplank_c.specs.Answers.{readCall}
-use mathlib.Core.Path.{_≡_, ap, _∙_}
+-- `skiffplank_read` meets its contract, by that of `statelist::read`.
+use mathlib.Core.Path.{ap}
 use borrow.Author.Needs.{needs}
+use Rattle.skiffplank_c.specs.Answers.{readCall}
+use Rattle.skiffplank_c.proofs.Fits.{read-fits}
 use Rattle.skiffplank_c.proofs.skiffplank_read.Statement.{statement}
 use Rattle.skiffplank_c.proofs.skiffplank_read.Tie as tie
-use Rattle.skiffplank_c.proofs.skiffplank_read.Reads as reads
-use Rattle.skiffplank_c.proofs.skiffplank_read.Lts as lts
-use Rattle.skiffplank_c.proofs.answers.answer.Reads as answer-reads
-use Rattle.statelist.proofs.read.Reads as read-reads
 
--- src/lib.rt:32:12
 read-requires : tie.Need-read-requires
 read-requires c κs = search needs
 
--- src/lib.rt:32:5
 answer-requires : tie.Need-answer-requires
-answer-requires c κs = read-fits _ _ _ _ _ (c .before .before .before .before .before .before .before .before .read .result) _ _ _ _ (c .before .before .before .before .before .before .before .before .read .ensures)
+answer-requires c κs =
+    let read-at = c .before .before .before .before .before .before .before .before in
+    read-fits _ _ _ _ _ (read-at .read .result) _ _ _ _ (read-at .read .ensures)
 
--- src/lib.rt:20:1
 same-length : tie.Need-same-length
 same-length c = search needs
 
--- src/lib.rt:20:1
 same-length-2 : tie.Need-same-length-2
 same-length-2 c = search needs
 
--- src/lib.rt:20:1
 same-length-3 : tie.Need-same-length-3
 same-length-3 c = search needs
 
--- src/lib.rt:20:1
 same-length-4 : tie.Need-same-length-4
 same-length-4 c = search needs
 
--- src/lib.rt:20:1
 returns : tie.Need-returns
 returns c = rw (c .answer .ensures) (ap readCall (c .before .before .before .before .before .before .before .before .before .read .ensures))
 

@@ -1,122 +1,131 @@
-use Rattle.statelist.proofs.Ends.{comes-long, comes-graph, comes-refused}
-use Rattle.statelist.specs.Lists.{zeros}
-use mathlib.Core.Path.{_≡_, sym, ap, _∙_}
-use types.Run
-use mathlib.Core.List.{[], _∷_}
-use Rattle.statelist.specs.declared.Reading.the-variants.{Graph}
+-- `read` meets its contract: too long, a graph, or refused and cleared.
 use Prim.Native.Nat.{ℕ}
+use mathlib.Core.List.{[], _∷_}
 use mathlib.Core.Logic.{_≢_}
+use mathlib.Core.Path.{sym, ap, _∙_}
+use types.Run
 use borrow.Author.Needs.{needs}
+use Rattle.statelist.specs.Lists.{zeros}
+use Rattle.statelist.specs.declared.Reading.the-variants.{Graph}
+use Rattle.statelist.proofs.Ends.{comes-long, comes-graph, comes-refused}
 use Rattle.statelist.proofs.read.Statement.{statement}
 use Rattle.statelist.proofs.read.Tie as tie
-use Rattle.statelist.proofs.read.Reads as reads
-use Rattle.statelist.proofs.read.Lts as lts
-use Rattle.statelist.proofs.fill.fill_all.Reads as fill-all-reads
-use Rattle.statelist.proofs.rooms.clear_all.Reads as clear-all-reads
 
--- src/lib.rt:43:5
 clear-all-requires : tie.Need-clear-all-requires
 clear-all-requires c κs = search needs
 
--- src/lib.rt:45:9
 same-length : tie.Need-same-length
 same-length c = search needs
 
--- src/lib.rt:45:9
 same-length-2 : tie.Need-same-length-2
 same-length-2 c = search needs
 
--- src/lib.rt:45:9
 same-length-3 : tie.Need-same-length-3
 same-length-3 c = search needs
 
--- src/lib.rt:45:9
 same-length-4 : tie.Need-same-length-4
 same-length-4 c = search needs
 
--- src/lib.rt:45:9
 returns : tie.Need-returns
 returns c = let cleared = c .before .before .before .before .before .before .before .before .before .clear-all .ensures in
     rw (cleared .0, cleared .1, cleared .2, cleared .3) (comes-long _ _ _ _ _ (c .if1 .taken))
 
--- src/lib.rt:47:9
 fill-all-requires : tie.Need-fill-all-requires
-fill-all-requires c κs = let cleared = c .before .before .before .before .before .before .before .before .before .before .before .before .before .clear-all .ensures in (
-  c .before .before .before .before .if1 .left,
-  cleared .0 ∙ ap zeros (sym (c .before .before .before .before .before .before .before .before .before .before .before .before .offsets .given)),
-  cleared .1 ∙ ap zeros (sym (c .before .before .before .before .before .before .before .before .before .before .targets .given)),
-  cleared .2 ∙ ap zeros (sym (c .before .before .before .before .before .before .before .before .flags .given)),
-  cleared .3 ∙ ap zeros (sym (c .before .before .before .before .before .before .places .given)),
-)
+fill-all-requires c κs =
+    let test = c .before .before .before .before in
+    let places-at = test .before .before in
+    let flags-at = places-at .before .before in
+    let targets-at = flags-at .before .before in
+    let offsets-at = targets-at .before .before in
+    let cleared-here = offsets-at .before in
+    let cleared = cleared-here .clear-all .ensures in (
+      test .if1 .left,
+      cleared .0 ∙ ap zeros (sym (offsets-at .offsets .given)),
+      cleared .1 ∙ ap zeros (sym (targets-at .targets .given)),
+      cleared .2 ∙ ap zeros (sym (flags-at .flags .given)),
+      cleared .3 ∙ ap zeros (sym (places-at .places .given)),
+    )
 
--- src/lib.rt:49:9
 enum-known-reading : tie.Need-enum-known-reading
 enum-known-reading c = search needs
 
--- src/lib.rt:53:9
 clear-all-requires-2 : tie.Need-clear-all-requires-2
 clear-all-requires-2 c κs = search needs
 
--- src/lib.rt:54:9
 same-length-5 : tie.Need-same-length-5
 same-length-5 c = search needs
 
--- src/lib.rt:54:9
 same-length-6 : tie.Need-same-length-6
 same-length-6 c = search needs
 
--- src/lib.rt:54:9
 same-length-7 : tie.Need-same-length-7
 same-length-7 c = search needs
 
--- src/lib.rt:54:9
 same-length-8 : tie.Need-same-length-8
 same-length-8 c = search needs
 
--- src/lib.rt:54:9
 returns-2 : tie.Need-returns-2
-returns-2 c = let refusal = c .before .before .before .before .before .before .before .before .before .before .before .before .before .match .keys2 in
-    let no-graph : (n e : ℕ) → c .before .before .before .before .before .before .before .before .before .before .before .before .before .before .before .before .before .before .before .before .before .before .fill-all .result ≢ Graph n e =
+returns-2 c =
+    let again = c .before .before .before .before .before .before .before .before in
+    let match-at = again .before .before .before .before .before in
+    let places2-at = match-at .before .before in
+    let flags2-at = places2-at .before .before in
+    let targets2-at = flags2-at .before .before in
+    let offsets2-at = targets2-at .before .before in
+    let filled = offsets2-at .before in
+    let test = filled .before .before .before .before .before in
+    let places-at = test .before .before in
+    let flags-at = places-at .before .before in
+    let targets-at = flags-at .before .before in
+    let offsets-at = targets-at .before .before in
+    let refusal = match-at .match .keys2 in
+    let no-graph : (n e : ℕ) → filled .fill-all .result ≢ Graph n e =
     λ n e q. types.Run.miss (1 ∷ 2 ∷ 3 ∷ 4 ∷ 5 ∷ 6 ∷ 7 ∷ 8 ∷ []) 0 tt (rw q at refusal) in
-    let fills = rw (c .before .before .before .before .before .before .before .before .before .before .before .before .before .before .before .before .before .before .before .before .before .before .before .before .before .before .before .before .before .before .before .before .before .before .before .offsets .given, c .before .before .before .before .before .before .before .before .before .before .before .before .before .before .before .before .before .before .before .before .before .before .before .before .before .before .before .before .before .before .before .before .before .targets .given, c .before .before .before .before .before .before .before .before .before .before .before .before .before .before .before .before .before .before .before .before .before .before .before .before .before .before .before .before .before .before .before .flags .given, c .before .before .before .before .before .before .before .before .before .before .before .before .before .before .before .before .before .before .before .before .before .before .before .before .before .before .before .before .before .places .given) at (c .before .before .before .before .before .before .before .before .before .before .before .before .before .before .before .before .before .before .before .before .before .before .fill-all .ensures) in
-    let cleared = c .before .before .before .before .before .before .before .before .clear-all2 .ensures in
+    let fills = rw (offsets-at .offsets .given, targets-at .targets .given, flags-at .flags .given, places-at .places .given) at (filled .fill-all .ensures) in
+    let cleared = again .clear-all2 .ensures in
     rw (
       cleared .0,
       cleared .1,
       cleared .2,
       cleared .3,
-      c .before .before .before .before .before .before .before .before .before .before .before .before .before .before .before .before .before .before .before .before .before .offsets2 .given,
-      c .before .before .before .before .before .before .before .before .before .before .before .before .before .before .before .before .before .before .before .targets2 .given,
-      c .before .before .before .before .before .before .before .before .before .before .before .before .before .before .before .before .before .flags2 .given,
-      c .before .before .before .before .before .before .before .before .before .before .before .before .before .before .before .places2 .given,
-      c .before .before .before .before .before .before .before .before .before .before .before .before .before .before .before .before .before .before .before .before .before .before .before .before .before .before .before .before .before .before .before .before .before .before .before .offsets .given,
-      c .before .before .before .before .before .before .before .before .before .before .before .before .before .before .before .before .before .before .before .before .before .before .before .before .before .before .before .before .before .before .before .before .before .targets .given,
-      c .before .before .before .before .before .before .before .before .before .before .before .before .before .before .before .before .before .before .before .before .before .before .before .before .before .before .before .before .before .before .before .flags .given,
-      c .before .before .before .before .before .before .before .before .before .before .before .before .before .before .before .before .before .before .before .before .before .before .before .before .before .before .before .before .before .places .given,
+      offsets2-at .offsets2 .given,
+      targets2-at .targets2 .given,
+      flags2-at .flags2 .given,
+      places2-at .places2 .given,
+      offsets-at .offsets .given,
+      targets-at .targets .given,
+      flags-at .flags .given,
+      places-at .places .given,
     )
-    (comes-refused _ _ _ _ _ _ _ _ _ (c .before .before .before .before .before .before .before .before .before .before .before .before .before .before .before .before .before .before .before .before .before .before .before .before .before .before .before .if1 .left) _ no-graph fills)
+    (comes-refused _ _ _ _ _ _ _ _ _ (test .if1 .left) _ no-graph fills)
 
--- src/lib.rt:33:1
 same-length-9 : tie.Need-same-length-9
 same-length-9 c = search needs
 
--- src/lib.rt:33:1
 same-length-10 : tie.Need-same-length-10
 same-length-10 c = search needs
 
--- src/lib.rt:33:1
 same-length-11 : tie.Need-same-length-11
 same-length-11 c = search needs
 
--- src/lib.rt:33:1
 same-length-12 : tie.Need-same-length-12
 same-length-12 c = search needs
 
--- src/lib.rt:33:1
 returns-3 : tie.Need-returns-3
-returns-3 c = let fills = rw (c .before .before .before .before .before .before .before .before .before .before .before .before .before .before .before .before .before .before .before .before .before .before .before .before .offsets .given, c .before .before .before .before .before .before .before .before .before .before .before .before .before .before .before .before .before .before .before .before .before .before .targets .given, c .before .before .before .before .before .before .before .before .before .before .before .before .before .before .before .before .before .before .before .before .flags .given, c .before .before .before .before .before .before .before .before .before .before .before .before .before .before .before .before .before .before .places .given, c .before .reading .given .1) at (c .before .before .before .before .before .before .before .before .before .before .before .fill-all .ensures) in
-    comes-graph _ _ _ _ _ _ _ _ _ (c .before .before .before .before .before .before .before .before .before .before .before .before .before .before .before .before .if1 .left) _ _
-    (c .before .before .before .before .before .before .before .before .before .before .offsets2 .given ∙ c .before .before .before .before .before .before .before .before .before .before .before .before .before .before .before .before .before .before .before .before .before .before .before .before .offsets .given) (c .before .before .before .before .before .before .before .before .targets2 .given ∙ c .before .before .before .before .before .before .before .before .before .before .before .before .before .before .before .before .before .before .before .before .before .before .targets .given) (c .before .before .before .before .before .before .flags2 .given ∙ c .before .before .before .before .before .before .before .before .before .before .before .before .before .before .before .before .before .before .before .before .flags .given) (c .before .before .before .before .places2 .given ∙ c .before .before .before .before .before .before .before .before .before .before .before .before .before .before .before .before .before .before .places .given) fills
+returns-3 c =
+    let places2-at = c .before .before .before .before in
+    let flags2-at = places2-at .before .before in
+    let targets2-at = flags2-at .before .before in
+    let offsets2-at = targets2-at .before .before in
+    let filled = offsets2-at .before in
+    let test = filled .before .before .before .before .before in
+    let places-at = test .before .before in
+    let flags-at = places-at .before .before in
+    let targets-at = flags-at .before .before in
+    let offsets-at = targets-at .before .before in
+    let fills = rw (offsets-at .offsets .given, targets-at .targets .given, flags-at .flags .given, places-at .places .given, c .before .reading .given .1) at (filled .fill-all .ensures) in
+    comes-graph _ _ _ _ _ _ _ _ _ (test .if1 .left) _ _
+    (offsets2-at .offsets2 .given ∙ offsets-at .offsets .given) (targets2-at .targets2 .given ∙ targets-at .targets .given) (flags2-at .flags2 .given ∙ flags-at .flags .given) (places2-at .places2 .given ∙ places-at .places .given) fills
 
 pub read-spec : {M : Type 1} → statement M
 read-spec =

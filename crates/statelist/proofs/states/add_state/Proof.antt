@@ -1,88 +1,70 @@
-use mathlib.Core.Path.{_≡_, refl}
+-- `add_state` meets its contract.
+use mathlib.Core.Path.{refl}
 use borrow.Author.Needs.{needs}
 use Rattle.statelist.proofs.states.add_state.Statement.{statement}
 use Rattle.statelist.proofs.states.add_state.Tie as tie
-use Rattle.statelist.proofs.states.add_state.Reads as reads
-use Rattle.statelist.proofs.states.add_state.Lts as lts
-use Rattle.pairs.proofs.insert.Reads as insert-reads
-use Rattle.statelist.proofs.states.narrow.Reads as narrow-reads
 
--- src/states.rt:138:5
 mul-flags : tie.Need-mul-flags
 mul-flags c = search needs
 
--- src/states.rt:138:5
 slice-write-flags : tie.Need-slice-write-flags
 slice-write-flags c = search needs
 
--- src/states.rt:139:21
 narrow-requires : tie.Need-narrow-requires
 narrow-requires c κs = search needs
 
--- src/states.rt:139:12
 mul-places : tie.Need-mul-places
 mul-places c = search needs
 
--- src/states.rt:139:5
 mul-places-2 : tie.Need-mul-places-2
 mul-places-2 c = search needs
 
--- src/states.rt:139:5
 slice-write-places : tie.Need-slice-write-places
 slice-write-places c = search needs
 
--- src/states.rt:140:25
 narrow-requires-2 : tie.Need-narrow-requires-2
 narrow-requires-2 c κs = search needs
 
--- src/states.rt:140:12
 mul-places-3 : tie.Need-mul-places-3
 mul-places-3 c = search needs
 
--- src/states.rt:140:12
 add-places : tie.Need-add-places
 add-places c = search needs
 
--- src/states.rt:140:5
 mul-places-4 : tie.Need-mul-places-4
 mul-places-4 c = search needs
 
--- src/states.rt:140:5
 slice-write-places-2 : tie.Need-slice-write-places-2
 slice-write-places-2 c = search needs
 
--- src/states.rt:141:5
 insert-requires : tie.Need-insert-requires
 insert-requires c κs = search needs
 
--- src/states.rt:117:1
 same-length : tie.Need-same-length
 same-length c = search needs
 
--- src/states.rt:117:1
 same-length-2 : tie.Need-same-length-2
 same-length-2 c = search needs
 
--- src/states.rt:117:1
 same-length-3 : tie.Need-same-length-3
 same-length-3 c = search needs
 
--- src/states.rt:117:1
 same-length-4 : tie.Need-same-length-4
 same-length-4 c = search needs
 
--- src/states.rt:117:1
 same-length-5 : tie.Need-same-length-5
 same-length-5 c = search needs
 
--- src/states.rt:117:1
 same-length-6 : tie.Need-same-length-6
 same-length-6 c = search needs
 
--- src/states.rt:117:1
 returns : tie.Need-returns
-returns c = let put = c .before .before .before .before .before .before .before .before .insert .ensures in
-    (refl, rw (c .before .before .before .before .before .before .before .before .before .before .before .before .before .before .narrow .ensures, c .before .before .before .before .before .before .before .before .before .before .before .before .before .narrow2 .ensures), put .0, put .1, put .2, put .3)
+returns c =
+    let put-here = c .before .before .before .before .before .before .before .before in
+    let small2 = put-here .before .before .before .before .before in
+    let small = small2 .before in
+    let put = put-here .insert .ensures in
+    (refl, rw (small .narrow .ensures, small2 .narrow2 .ensures), put .0, put .1, put .2, put .3)
 
 pub add-state-spec : {M : Type 1} → statement M
 add-state-spec =

@@ -1,20 +1,16 @@
+-- `begins_state` meets its contract: past the end no byte stands, which counts as 0.
 use Prim.Native.Nat.{ℕ}
 use lib.ListN.{List·getD-eq-default}
 use borrow.Author.Needs.{needs}
 use Rattle.statelist.proofs.states.begins_state.Statement.{statement}
 use Rattle.statelist.proofs.states.begins_state.Tie as tie
-use Rattle.statelist.proofs.states.begins_state.Reads as reads
-use Rattle.statelist.proofs.states.begins_state.Lts as lts
 
--- src/states.rt:79:9
 returns : tie.Need-returns
 returns c = rw (List·getD-eq-default {A = ℕ} _ 0 (c .if1 .taken))
 
--- src/states.rt:81:5
 shared-slice-read-result : tie.Need-shared-slice-read-result
 shared-slice-read-result c = search needs
 
--- src/states.rt:75:1
 returns-2 : tie.Need-returns-2
 returns-2 c = search needs
 
