@@ -1,5 +1,5 @@
--- What the functions of src/ find in a text from a place on. A label is handed on as its length and two words, which are its first eight bytes and the
--- rest of them, read as numbers in base 256; labels have no byte 0, so different labels have different words.
+-- What the functions of src/ find in a text from a place on. A label is handed on as its length and two words, which are its first eight bytes
+-- and the rest of them, read as numbers in base 256. Labels have no byte 0, so different labels have different words (`words-differ`).
 use Prim.Native.Nat.{ℕ, zero, suc, _+_, _*_}
 use mathlib.Core.Bool.{Bool, cond, _&&_}
 use mathlib.Core.List.{List, [], _∷_}

@@ -47,11 +47,19 @@ plain = 45 ∷ []
 
 -- 01: "`S→label→flag`: a state; flag `a` (accepting) or `-`"
 unfoldable pub isState : List ℕ → Bool
-isState line = eqb (length (fields line)) 3 && same (field 0 line) S && isLabel (field 1 line) && (same (field 2 line) accepting || same (field 2 line) plain)
+isState line =
+    eqb (length (fields line)) 3
+    && same (field 0 line) S
+    && isLabel (field 1 line)
+    && (same (field 2 line) accepting || same (field 2 line) plain)
 
 -- 01: "`T→label→label`: a transition, from and to"
 unfoldable pub isTransition : List ℕ → Bool
-isTransition line = eqb (length (fields line)) 3 && same (field 0 line) T && isLabel (field 1 line) && isLabel (field 2 line)
+isTransition line =
+    eqb (length (fields line)) 3
+    && same (field 0 line) T
+    && isLabel (field 1 line)
+    && isLabel (field 2 line)
 
 -- the flag's word: 1 for `a`, 0 for `-`
 unfoldable pub flagOf : List ℕ → ℕ

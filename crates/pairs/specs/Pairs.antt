@@ -1,6 +1,6 @@
--- Numbered pairs of words, first and second, looked up through chains. A chain goes through the numbers whose pairs are of one bucket, from the last
--- to the first: the head of a bucket is one more than its last number, the next of a number one more than the last before it of its bucket, and 0
--- ends a chain. That all numbers between are of another bucket is the whole invariant.
+-- Numbered pairs of words, first and second, looked up through chains. A chain goes through the numbers whose pairs are of one bucket, from the
+-- last to the first: the head of a bucket is one more than its last number, the next of a number one more than the last before it of its bucket,
+-- and 0 ends a chain. That all numbers between are of another bucket is the whole invariant.
 use Prim.Native.Nat.{ℕ, zero, suc, _+_, _*_, _%_, _<_, _≤_}
 use mathlib.Core.Path.{_≡_}
 use mathlib.Core.Bool.{Bool, cond, _&&_}

@@ -1,6 +1,6 @@
 -- Whatever the text, what `statelist::read` says fits 32 bits.
 use Prim.Native.Nat.{ℕ}
-use mathlib.Core.Path.{_≡_, refl, sym, ap, _∙_}
+use mathlib.Core.Path.{_≡_, sym, ap}
 use mathlib.Core.List.{List}
 use native.Mathlib.Omega.{arith}
 use Rattle.statelist.specs.declared.Reading.{Reading}

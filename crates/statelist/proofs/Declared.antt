@@ -1,22 +1,18 @@
 -- Laws of reading the S lines: what the loop holds at its start, after a state more, and where it is refused.
 use Prim.Native.Nat.{ℕ, suc, _+_, _*_, _<_, _≤_}
 use mathlib.Core.Path.{_≡_, refl, sym, ap, _∙_, subst}
-use mathlib.Core.Bool.{Bool, true, false}
-use mathlib.Core.List.{List, [], _∷_, _++_}
-use mathlib.Core.Logic.{_≢_}
-use lib.ListN.{length, getD, set, take, drop, replicate, length-drop}
+use mathlib.Core.Bool.{true, false}
+use mathlib.Core.List.{List, []}
+use lib.ListN.{length, getD, set, take, drop, length-drop}
 use lib.Seq.{drop-drop, getD-set-other}
-use native.Mathlib.Nat.{add-zero}
 use native.Mathlib.Omega.{arith}
 use Rattle.graphs.specs.Lists.{tab}
 use Rattle.graphs.proofs.Stamps.{zeroes-at}
 use Rattle.graphs.proofs.Tab.{tab-long}
 use Rattle.lines.specs.declared.Label.{Label}
-use Rattle.lines.specs.declared.StateLine.{StateLine}
 use Rattle.lines.specs.declared.StateLine.the-variants.{NoState}
-use Rattle.lines.specs.Line.{pieces, field, isLabel, isState, isTransition, flagOf}
-use Rattle.lines.specs.Found.{firstWord, secondWord, labelOf, firstLine, ended, stateFound}
-use Rattle.pairs.specs.declared.Found.{Found}
+use Rattle.lines.specs.Line.{field, isLabel, flagOf}
+use Rattle.lines.specs.Found.{firstWord, secondWord, labelOf, firstLine, stateFound}
 use Rattle.pairs.specs.declared.Found.the-variants.{At, Nothing}
 use Rattle.pairs.specs.Pairs.{isPair, found, buckets, bucketOf}
 use Rattle.pairs.proofs.Chain.{chain-none}
@@ -27,9 +23,9 @@ use Rattle.statelist.specs.declared.Reading.{Reading}
 use Rattle.statelist.specs.declared.Reading.the-variants.{NoForm, DeclaredTwice, NoStateRoom}
 use Rattle.statelist.specs.Text.{State, declared, refused}
 use Rattle.statelist.specs.Lists.{told, refusal, zeros}
-use Rattle.statelist.specs.Loops.{statesIn, from-here, Index, Blank, Refused, roomFor, Declared}
+use Rattle.statelist.specs.Loops.{statesIn, from-here, Blank, Refused, roomFor, Declared}
 use Rattle.statelist.proofs.Here.{StateHere, state-bad, state-twice, state-full, state-more}
-use Rattle.statelist.proofs.Index.{label-unknown, label-known, asked-not, index-none, places′, states-more, index-more}
+use Rattle.statelist.proofs.Index.{label-unknown, label-known, asked-not, index-none, states-more, index-more}
 
 pub blank-zeros : (l : List ℕ) (n : ℕ) → l ≡ zeros (length l) → Blank l n
 blank-zeros l n e i h = ap (λ m. getD m i 0) e ∙ zeroes-at (length l) i
@@ -112,8 +108,10 @@ module _ {text : List ℕ} {held : ℕ} {flags places first second head next : L
           (state-full (roomFor held t) text at states here unknown
           (rw (states-long text flags places n) h))
 
-      pub declared-more : n < held → held ≤ length flags → 2 * held ≤ length places → held ≤ length first → held ≤ length second → held ≤ length next
-          → Declared text held (set flags n flag) (set (set places (2 * n) (at + 2)) (2 * n + 1) (l .len)) (set first n (l .first)) (set second n (l .second))
+      pub declared-more : n < held → held ≤ length flags → 2 * held ≤ length places
+          → held ≤ length first → held ≤ length second → held ≤ length next
+          → Declared text held (set flags n flag) (set (set places (2 * n) (at + 2)) (2 * n + 1) (l .len))
+          (set first n (l .first)) (set second n (l .second))
           (set head (bucketOf (l .first) (l .second)) (n + 1)) (set next n (getD head (bucketOf (l .first) (l .second)) 0)) after (n + 1)
       unfolding labelOf
       declared-more h in-flags in-places in-first in-second in-next =

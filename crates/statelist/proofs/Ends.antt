@@ -1,27 +1,23 @@
 -- Laws of the end of a reading: flags and places in the lent lists are the page's, and so is what comes of the call.
-use Prim.Native.Nat.{ℕ, zero, suc, _+_, _-_, _*_, _<_, _≤_}
+use Prim.Native.Nat.{ℕ, zero, suc, _+_, _*_, _<_, _≤_}
 use mathlib.Core.Path.{_≡_, refl, sym, ap, _∙_, subst}
-use mathlib.Core.Bool.{Bool, true, false}
-use mathlib.Core.List.{List, [], _∷_, _++_, map, append-assoc}
-use mathlib.Core.Logic.{_⊎_, inl, inr, _≢_}
-use lib.ListN.{length, getD, take, drop, replicate, length-take, length-drop, take-append-drop, length-replicate, getD-replicate}
-use lib.Seq.{ext-getD, getD-drop, take-suc, length-take-le}
+use mathlib.Core.List.{List, [], _∷_, _++_, append-assoc}
+use mathlib.Core.Logic.{inl, inr, _≢_}
+use lib.ListN.{length, getD, take}
+use lib.Seq.{take-suc}
 use native.Mathlib.Nat.{zero-add}
 use native.Mathlib.Omega.{arith}
 use borrow.Author.Tests.{lt-ltb, le-ltb}
 use Rattle.graphs.specs.Lists.{tab}
 use Rattle.graphs.specs.Words.{most-states, most-transitions}
-use Rattle.graphs.proofs.Tab.{tab-more, tab-long}
-use Rattle.graphs.proofs.Stamps.{zeroes-at}
-use Rattle.lines.specs.Line.{pieces, isState, isTransition}
-use Rattle.lines.specs.Found.{firstLine, ended}
+use Rattle.graphs.proofs.Tab.{tab-more}
 use Rattle.statelist.proofs.Nil.{nil-none, nil-some}
 use Rattle.statelist.specs.declared.Reading.{Reading}
 use Rattle.statelist.specs.declared.Reading.the-variants.{Graph, TooLong, NoState}
 use Rattle.statelist.specs.Text.{State, Transition, Rooms, Seen, Meaning, reads, refused, isNil, atEnd, most-text, meaning}
-use Rattle.statelist.specs.Lists.{zeros, padded, flagsOf, placesOf, targetsOf, offsetsOf, graph, filled, roomsOf, outcome}
+use Rattle.statelist.specs.Lists.{zeros, padded, flagsOf, placesOf, targetsOf, offsetsOf, filled, roomsOf, outcome}
 use Rattle.statelist.specs.Labels.{labelAt, comes}
-use Rattle.statelist.specs.Loops.{stateAt, statesIn, transitionsIn, from-here, Index, Blank, Refused, roomFor, Declared, Listed, Fills, Closed, Closes}
+use Rattle.statelist.specs.Loops.{stateAt, statesIn, transitionsIn, from-here, Index, Refused, roomFor, Declared, Listed, Fills, Closed, Closes}
 use Rattle.statelist.specs.Build.{Buildable}
 use Rattle.statelist.proofs.Settled.{told-one}
 use Rattle.statelist.proofs.Here.{end-here}
@@ -46,7 +42,9 @@ module _ (text flags places : List ℕ) where
 
   last-state : (n : ℕ) → statesIn text flags places (suc n) ≡ statesIn text flags places n ++ (stateAt text flags places n ∷ [])
   unfolding statesIn
-  last-state n = tab-more 0 n (stateAt text flags places) ∙ ap (λ i. tab 0 n (stateAt text flags places) ++ (stateAt text flags places i ∷ [])) (zero-add n)
+  last-state n =
+      tab-more 0 n (stateAt text flags places)
+      ∙ ap (λ i. tab 0 n (stateAt text flags places) ++ (stateAt text flags places i ∷ [])) (zero-add n)
 
   pub flags-in : (n : ℕ) → n ≤ length flags → flagsOf (statesIn text flags places n) ≡ take n flags
   unfolding stateAt flagsOf
@@ -75,7 +73,7 @@ module _ (text flags places : List ℕ) where
       (sym (append-assoc (take (2 * n) places) (getD places (2 * n) 0 ∷ []) (getD places (2 * n + 1) 0 ∷ [])))
 
 -- all lines were read: n states up to `start`, then e transitions up to the end
-module _ (text : List ℕ) (held heldT : ℕ) (flags places first second head next counted from to last prev : List ℕ) (start n at e : ℕ)
+module _ {text : List ℕ} {held heldT : ℕ} {flags places first second head next counted from to last prev : List ℕ} {start n at e : ℕ}
     (d : Declared text held flags places first second head next start n)
     (l : Listed text heldT n start first second head next counted from to last prev at e) (end : length text ≤ at) where
   abbrev states : List State
@@ -95,7 +93,8 @@ module _ (text : List ℕ) (held heldT : ℕ) (flags places first second head ne
   pub ends-none : n ≡ 0 → (offsets targets : List ℕ) → Fills offsets targets flags places NoState (from-here (roomFor held heldT) text 0 [] [])
   unfolding atEnd isNil
   ends-none none offsets targets =
-      let means : from-here (roomFor held heldT) text 0 [] [] ≡ refused 8 0 = ends ∙ rw (nil-none states (states-long text flags places n ∙ none)) in
+      let means : from-here (roomFor held heldT) text 0 [] [] ≡ refused 8 0 =
+      ends ∙ rw (nil-none states (states-long text flags places n ∙ none)) in
       subst (Fills offsets targets flags places NoState) (sym means) refl
 
   pub ends-graph : 0 < n → (offsets targets : List ℕ) → n ≤ length flags → 2 * n ≤ length places
@@ -105,9 +104,11 @@ module _ (text : List ℕ) (held heldT : ℕ) (flags places first second head ne
   ends-graph some offsets targets in-flags in-places offsets-are targets-are =
       let flags-are : flags ≡ padded (length flags) (flagsOf states) =
       blank-padded flags n in-flags (d .flags-blank) ∙ ap (padded (length flags)) (sym (flags-in text flags places n in-flags)) in
+      let places-all = places-in text flags places n in-places (d .index .lengths) in
       let places-are : places ≡ padded (length places) (placesOf states) =
-      blank-padded places (2 * n) in-places (d .places-blank) ∙ ap (padded (length places)) (sym (places-in text flags places n in-places (d .index .lengths))) in
-      let means : from-here (roomFor held heldT) text 0 [] [] ≡ reads all-seen = ends ∙ rw (nil-some states (omega (arith, states-long text flags places n))) in
+      blank-padded places (2 * n) in-places (d .places-blank) ∙ ap (padded (length places)) (sym places-all) in
+      let means : from-here (roomFor held heldT) text 0 [] [] ≡ reads all-seen =
+      ends ∙ rw (nil-some states (omega (arith, states-long text flags places n))) in
       subst (Fills offsets targets flags places (Graph n e)) (sym means)
       (rw (states-long text flags places n, transitions-long from to e) cc)
 
@@ -129,7 +130,8 @@ listed-buildable l few-n few-held in-offsets in-targets in-from in-to blank =
       blank = blank;
     }
 
-pub refused-fills : (offsets targets flags places : List ℕ) (r : Reading) (means : Meaning) → Refused r means → Fills offsets targets flags places r means
+pub refused-fills : (offsets targets flags places : List ℕ) (r : Reading) (means : Meaning) → Refused r means
+    → Fills offsets targets flags places r means
 refused-fills offsets targets flags places r means x = subst (Fills offsets targets flags places r) (sym (x .is)) (x .tells)
 
 -- the T lines are refused
@@ -141,15 +143,13 @@ stop-closes text held n start first second head next offsets targets r stop h fl
     subst (Fills offsets targets flags places r) (d .same held) (refused-fills offsets targets flags places r _ (stop flags places h (d .index)))
 
 -- the T lines are read
-pub closed-closes : (text : List ℕ) (held n start : ℕ) (first second head next counted from to last prev offsets targets : List ℕ) (at e : ℕ) (r : Reading)
-    → Listed text held n start first second head next counted from to last prev at e → length text ≤ at
-    → Closed n e (transitionsIn from to e) offsets targets r → Closes text held n start first second head next offsets targets r
-closed-closes text held n start first second head next counted from to last prev offsets targets at e r l end (inl none) h flags places d in-flags in-places =
-    rw (none .1) (ends-none text h held flags places first second head next counted from to last prev start n at e d l end (none .0) offsets targets)
-closed-closes text held n start first second head next counted from to last prev offsets targets at e r l end (inr some) h flags places d in-flags in-places =
-    rw (some .1)
-    (ends-graph text h held flags places first second head next counted from to last prev start n at e d l end (some .0) offsets targets in-flags in-places
-    (some .2) (some .3))
+module _ {text : List ℕ} {held n start : ℕ} {first second head next counted from to last prev : List ℕ} {at e : ℕ}
+    (l : Listed text held n start first second head next counted from to last prev at e) (end : length text ≤ at) where
+  pub closed-closes : (offsets targets : List ℕ) (r : Reading) → Closed n e (transitionsIn from to e) offsets targets r
+      → Closes text held n start first second head next offsets targets r
+  closed-closes offsets targets r (inl none) h flags places d in-flags in-places = rw (none .1) (ends-none d l end (none .0) offsets targets)
+  closed-closes offsets targets r (inr some) h flags places d in-flags in-places =
+      rw (some .1) (ends-graph d l end (some .0) offsets targets in-flags in-places (some .2) (some .3))
 
 -- What comes of a call. A text that is too long is refused as 1.
 too-long : (rooms : Rooms) (text : List ℕ) → most-text < length text → meaning rooms text ≡ refused 1 0
@@ -181,7 +181,8 @@ module _ (o t f p : ℕ) (text : List ℕ) where
         go (refused number line) is = absurd (let z : _≡_ {A = ℕ} 0 1 = cc in omega arith)
 
     -- a refusal: all words are 0
-    pub comes-refused : (r : Reading) → ((n e : ℕ) → r ≢ Graph n e) → Fills offsets targets flags places r (from-here (roomsOf o t f p) text 0 [] [])
+    pub comes-refused : (r : Reading) → ((n e : ℕ) → r ≢ Graph n e)
+        → Fills offsets targets flags places r (from-here (roomsOf o t f p) text 0 [] [])
         → comes r (zeros o) (zeros t) (zeros f) (zeros p) ≡ outcome o t f p text
     unfolding outcome
     comes-refused r no-graph fills = rw (not-long (roomsOf o t f p) text short) (go (from-here (roomsOf o t f p) text 0 [] []) fills)

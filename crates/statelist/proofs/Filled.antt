@@ -1,11 +1,10 @@
 -- What a text that is read gives: words that are a graph, and lists that fit their rooms, of which the first words are they.
-use Prim.Native.Nat.{ℕ, suc, _+_, _-_, _*_, _≤_}
+use Prim.Native.Nat.{ℕ, suc, _+_, _*_, _≤_}
 use mathlib.Core.Path.{_≡_, refl, sym, _∙_}
 use mathlib.Core.Bool.{true}
 use mathlib.Core.List.{List, [], _∷_}
 use lib.Dec.{ltb}
-use lib.ListN.{length, getD, take, length-append, length-replicate, length-map, List·getD-map}
-use lib.Seq.{take-at}
+use lib.ListN.{length, getD, take, length-map, List·getD-map}
 use native.Mathlib.Nat.{le-refl}
 use native.Mathlib.Omega.{arith}
 use native.Mathlib.Numerals.{add-one}
@@ -14,7 +13,7 @@ use Rattle.graphs.specs.Words.{most-states, most-transitions, isGraph}
 use Rattle.graphs.proofs.Same.{all-at}
 use Rattle.graphs.proofs.Words.{IsGraph, are-words}
 use Rattle.statelist.specs.Text.{State, Transition, Seen, reads, meaning}
-use Rattle.statelist.specs.Lists.{zeros, padded, placesOf, flagsOf, targetsOf, offsetsOf, roomsOf}
+use Rattle.statelist.specs.Lists.{padded, placesOf, flagsOf, targetsOf, offsetsOf, roomsOf}
 use Rattle.statelist.proofs.Zeros.{padded-take, padded-long}
 use Rattle.statelist.proofs.Targets.{targets-total, targets-mono, targets-below, offset-at, offsets-long, successors-are}
 use Rattle.statelist.proofs.Good.{absent, Good}

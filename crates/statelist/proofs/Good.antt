@@ -14,10 +14,11 @@ use Rattle.graphs.specs.Lists.{Mem, Once, all, any, same}
 use Rattle.graphs.proofs.Tests.{either, clash, same?, and-cases, cond-ind}
 use Rattle.graphs.proofs.Same.{eq-same, any-not-at, all-join}
 use Rattle.graphs.proofs.Once.{once-join}
-use Rattle.lines.specs.Line.{field, accepting, isState, isTransition, flagOf}
+use Rattle.lines.specs.Line.{field, isState, isTransition, flagOf}
 use Rattle.lines.proofs.Records.{flag-low}
 use Rattle.statelist.proofs.Nil.{is-nil}
-use Rattle.statelist.specs.Text.{State, Transition, Rooms, Seen, Meaning, reads, refused, isNil, declared, numberOf, transitionOf, stood, withState, withTransition, stateLine, transitionLine, oneLine, nothing}
+use Rattle.statelist.specs.Text.{State, Transition, Rooms, Seen, Meaning, reads, refused, isNil, declared, numberOf, transitionOf, stood}
+use Rattle.statelist.specs.Text.{withState, withTransition, stateLine, transitionLine, oneLine, nothing}
 use Rattle.statelist.specs.Lists.{targetsFrom}
 use Rattle.statelist.proofs.Targets.{target-stood, targets-more}
 

@@ -1,20 +1,17 @@
 -- Laws of reading from a place of the text on, one for each way a line can go: refused, or read, and then the rest of the text is read.
 use Prim.Native.Nat.{ℕ, zero, suc, _+_, _<_, _≤_}
-use mathlib.Core.Path.{_≡_, refl, sym, ap, _∙_, subst}
-use mathlib.Core.Bool.{Bool, true, false, cond, not, _&&_}
+use mathlib.Core.Path.{_≡_, sym, ap, _∙_}
+use mathlib.Core.Bool.{true, false, _&&_}
 use mathlib.Core.List.{List, [], _∷_, _++_}
 use mathlib.Core.Logic.{_⊎_, inl, inr, _≢_}
-use lib.Dec.{leb}
 use lib.ListN.{length, getD, drop, length-append, length-drop, drop-of-length-le}
-use lib.Seq.{drop-drop, drop-cons, getD-drop}
+use lib.Seq.{drop-drop, getD-drop}
 use borrow.Author.Tests.{le-leb, lt-leb}
 use native.Mathlib.Nat.{add-zero}
 use native.Mathlib.Omega.{arith}
 use Rattle.graphs.proofs.Tests.{either, clash, and-cases, not-both}
 use Rattle.lines.specs.declared.Label.{Label}
-use Rattle.lines.specs.declared.StateLine.{StateLine}
 use Rattle.lines.specs.declared.StateLine.the-variants.{State, NoState}
-use Rattle.lines.specs.declared.TransitionLine.{TransitionLine}
 use Rattle.lines.specs.declared.TransitionLine.the-variants.{Transition, NoTransition}
 use Rattle.lines.specs.Line.{cut, pieces, field, isState, isTransition, flagOf}
 use Rattle.lines.specs.Found.{labelOf, firstLine, ended, pastLine, stateFound, transitionFound}
@@ -22,7 +19,8 @@ use Rattle.lines.proofs.Pieces.{pieces-some, pieces-ended, pieces-rest}
 use Rattle.lines.proofs.Records.{letter-state, letter-transition}
 use Rattle.statelist.proofs.Nil.{nil-some}
 use Rattle.statelist.specs.Text as text
-use Rattle.statelist.specs.Text.{Rooms, Seen, Meaning, reads, refused, isNil, declared, transitionOf, stood, withState, withTransition, stateLine, transitionLine, oneLine, thenOn, atEnd, readLines}
+use Rattle.statelist.specs.Text.{Rooms, Seen, Meaning, reads, refused, isNil, declared, transitionOf, stood, withState, withTransition}
+use Rattle.statelist.specs.Text.{stateLine, transitionLine, oneLine, thenOn, atEnd, readLines}
 use Rattle.statelist.specs.Loops.{from-here}
 
 -- a byte that is not 0 stands inside the text
@@ -134,7 +132,9 @@ module _ (rooms : Rooms) (bytes : List ℕ) (at : ℕ) (states : List text.State
   read-here states′ transitions′ next w q e =
       let there : at + suc (length (firstLine left)) ≡ next = omega arith in
       let past : drop (suc (length (firstLine left))) left ≡ drop next bytes = drop-drop _ at bytes ∙ ap (λ k. drop k bytes) there in
-      line-read rooms left seen w ∙ ap (λ m. thenOn m (after rooms left)) e ∙ ap (λ l. readLines rooms (pieces l) (seen-at next states′ transitions′)) past
+      line-read rooms left seen w
+      ∙ ap (λ m. thenOn m (after rooms left)) e
+      ∙ ap (λ l. readLines rooms (pieces l) (seen-at next states′ transitions′)) past
 
 -- the line after it: its number and its place
 moved : {at at′ line line′ : ℕ} {states : List text.State} {transitions : List text.Transition} → at ≡ at′ → line ≡ line′
@@ -248,7 +248,7 @@ module _ (rooms : Rooms) (bytes : List ℕ) (at : ℕ) (states : List text.State
       transition-more d h =
           let transitions′ : List text.Transition = transitions ++ (transitionOf this states ∷ []) in
           let number : suc line-number ≡ suc (length states + length transitions′) =
-              rw (length-append transitions (transitionOf this states ∷ [])) (omega arith) in
+          rw (length-append transitions (transitionOf this states ∷ [])) (omega arith) in
           read-here rooms bytes at states transitions states transitions′ next (found .whole) (found .next-is)
           (rw (no-state, found .is, known, d, lt-leb _ _ h) (moved (sym (found .next-is)) number))
 

@@ -1,10 +1,9 @@
 -- Laws of the index of labels: what looking a label up by its two words says of the states, the empty index, and one state more.
-use Prim.Native.Nat.{ℕ, zero, suc, _+_, _*_, _<_, _≤_}
-use mathlib.Core.Path.{_≡_, refl, sym, ap, _∙_}
-use mathlib.Core.Bool.{Bool, true, false, _&&_}
+use Prim.Native.Nat.{ℕ, zero, suc, _+_, _*_, _<_}
+use mathlib.Core.Path.{_≡_, sym, ap, _∙_}
+use mathlib.Core.Bool.{Bool, true, false}
 use mathlib.Core.List.{List, [], _∷_, _++_}
 use mathlib.Core.Logic.{_⊎_, inl, inr, _≢_}
-use lib.Dec.{eqb}
 use lib.ListN.{length, getD, set, take, drop, length-set}
 use lib.Seq.{getD-set-same, getD-set-other}
 use native.Mathlib.Nat.{add-zero, zero-add}
@@ -12,16 +11,15 @@ use native.Mathlib.Numerals.{add-one}
 use native.Mathlib.Omega.{arith}
 use borrow.Author.Tests.{eqb-true, eq-eqb}
 use Rattle.graphs.specs.Lists.{tab, same}
-use Rattle.graphs.proofs.Tests.{and-cases, clash, not-both, same?}
+use Rattle.graphs.proofs.Tests.{and-cases, clash, same?}
 use Rattle.graphs.proofs.Tab.{tab-more, tab-ext}
 use Rattle.graphs.proofs.Same.{eq-same, ne-same}
 use Rattle.lines.specs.Line.{isLabel}
 use Rattle.lines.specs.Found.{firstWord, secondWord}
-use Rattle.pairs.specs.declared.Found.{Found}
 use Rattle.pairs.specs.declared.Found.the-variants.{At, Nothing}
 use Rattle.pairs.specs.Pairs.{isPair, found, bucketOf, Chain}
 use Rattle.pairs.proofs.Last.{found-nothing, found-at, any-found-nothing, any-found-at}
-use Rattle.pairs.proofs.Chain.{chain-none, chain-more}
+use Rattle.pairs.proofs.Chain.{chain-more}
 use Rattle.lines.proofs.Words.{words-differ}
 use Rattle.statelist.specs.Text.{State, declared, numberOf}
 use Rattle.statelist.specs.Labels.{labelAt}

@@ -2,14 +2,14 @@
 -- the next line starts.
 use Prim.Native.Nat.{ℕ, suc, _+_, _≤_}
 use mathlib.Core.Path.{_≡_, refl, sym, ap, subst, _∙_}
-use mathlib.Core.Bool.{true, false, not}
+use mathlib.Core.Bool.{true, not}
 use mathlib.Core.List.{List, [], _∷_}
 use lib.Dec.{ltb}
 use lib.ListN.{length, getD, take, drop}
 use lib.Seq.{drop-drop}
 use native.Mathlib.Omega.{arith}
 use borrow.Author.Tests.{lt-ltb}
-use Rattle.graphs.proofs.Tests.{clash, cond-ind}
+use Rattle.graphs.proofs.Tests.{cond-ind}
 use Rattle.lines.specs.Line.{pieces, field, isState}
 use Rattle.lines.specs.Found.{firstLine, ended}
 use Rattle.statelist.specs.Text.{Rooms, Seen, Meaning, reads, refused, isNil, oneLine, thenOn, atEnd, readLines, nothing, most-text, meaning}

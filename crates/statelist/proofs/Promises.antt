@@ -1,16 +1,15 @@
--- What the contract of `read` says in other words: a text that is read as a graph leaves the words of a graph, and different labels; and the numbers
--- that a reader is told are small.
-use Prim.Native.Nat.{ℕ, suc, _+_, _≤_, _<_}
-use mathlib.Core.Path.{_≡_, refl, sym, ap, _∙_, subst}
+-- What the contract of `read` says in other words: a text that is read as a graph leaves the words of a graph, and different labels; and the
+-- numbers that a reader is told are small.
+use Prim.Native.Nat.{ℕ, _+_, _≤_, _<_}
+use mathlib.Core.Path.{_≡_, refl, sym, ap, _∙_}
 use mathlib.Core.Bool.{true}
 use mathlib.Core.List.{List}
 use lib.ListN.{length, take}
 use native.Mathlib.Omega.{arith}
 use Rattle.graphs.specs.Words.{most-states, most-transitions, isGraph}
-use Rattle.statelist.specs.declared.Reading.{Reading}
 use Rattle.statelist.specs.declared.Reading.the-variants.{Graph}
 use Rattle.statelist.specs.Text.{Seen, Meaning, reads, refused, meaning}
-use Rattle.statelist.specs.Lists.{Told, graph, refusal, roomsOf, Outcome, filled, outcome}
+use Rattle.statelist.specs.Lists.{graph, refusal, roomsOf, Outcome, filled, outcome}
 use Rattle.statelist.specs.Labels.{labelAt, comes}
 use Rattle.statelist.proofs.Meaning.{numbers-only}
 use Rattle.statelist.proofs.Filled.{states-fit, transitions-fit, meaning-graph, offsets-first, targets-first, flags-first}
@@ -42,7 +41,8 @@ module _ (o t f p : ℕ) (text : List ℕ) where
           let tells : graph n e ≡ refusal number line = sym told ∙ ap (λ x. x .tells) (is ∙ ap (filled o t f p) m) in
           absurd (let z : _≡_ {A = ℕ} 0 1 = cc in omega arith)
 
-  module _ (n e : ℕ) (offsets targets flags places : List ℕ) (comes-so : comes (Graph n e) offsets targets flags places ≡ outcome o t f p text) where
+  module _ (n e : ℕ) (offsets targets flags places : List ℕ)
+      (comes-so : comes (Graph n e) offsets targets flags places ≡ outcome o t f p text) where
     abbrev w : Was n e (comes (Graph n e) offsets targets flags places)
     w = was n e (comes (Graph n e) offsets targets flags places) refl comes-so
 

@@ -1,15 +1,16 @@
 -- The four lists and the answer that a reading gives: 01 "The reader fills four lent lists". A lent list is known by its length; what stood in it
 -- before does not count.
 use Prim.Native.Nat.{ℕ, zero, suc, _+_, _-_, _/_, min}
-use mathlib.Core.Bool.{Bool, cond}
+use mathlib.Core.Bool.{cond}
 use mathlib.Core.List.{List, [], _∷_, _++_, map}
 use lib.Dec.{eqb}
 use lib.ListN.{length, replicate}
 use Rattle.graphs.specs.Lists.{tab}
 use Rattle.graphs.specs.Words.{most-states, most-transitions}
-use Rattle.statelist.specs.Text.{State, Transition, Rooms, Seen, Meaning, reads, refused, meaning}
+use Rattle.statelist.specs.Text.{State, Transition, Rooms, Meaning, reads, refused, meaning}
 use Rattle.statelist.specs.declared.Reading.{Reading}
-use Rattle.statelist.specs.declared.Reading.the-variants.{Graph, TooLong, NoForm, DeclaredTwice, NotDeclared, PairTwice, NoStateRoom, NoTransitionRoom, NoState}
+use Rattle.statelist.specs.declared.Reading.the-variants.{Graph, TooLong, NoForm, DeclaredTwice, NotDeclared, PairTwice}
+use Rattle.statelist.specs.declared.Reading.the-variants.{NoStateRoom, NoTransitionRoom, NoState}
 
 abbrev pub zeros : ℕ → List ℕ
 zeros k = replicate k 0
@@ -40,8 +41,8 @@ targetsOf (suc n) transitions = targetsOf n transitions ++ targetsFrom n transit
 unfoldable pub offsetsOf : ℕ → List Transition → List ℕ
 offsetsOf n transitions = tab 0 (suc n) (λ s. length (targetsOf s transitions))
 
--- 01: "The rooms hold as many states as the least of 4,096, offset words less one (0 if there are none), flag words and half the place words rounded
--- down; and as many transitions as the lesser of 16,384 and target words."
+-- 01: "The rooms hold as many states as the least of 4,096, offset words less one (0 if there are none), flag words and half the place words
+-- rounded down; and as many transitions as the lesser of 16,384 and target words."
 abbrev pub statesHeld : (offsets flags places : ℕ) → ℕ
 statesHeld offsets flags places = min most-states (min (offsets - 1) (min flags (places / 2)))
 

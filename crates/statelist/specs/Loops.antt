@@ -12,10 +12,9 @@ use Rattle.lines.specs.Found.{firstWord, secondWord, stateFound, transitionFoun
 use Rattle.lines.specs.declared.Label.{Label}
 use Rattle.lines.specs.declared.StateLine.{StateLine}
 use Rattle.lines.specs.declared.TransitionLine.{TransitionLine}
-use Rattle.pairs.specs.declared.Found.{Found}
 use Rattle.pairs.specs.declared.Found.the-variants.{At, Nothing}
 use Rattle.pairs.specs.Pairs.{isPair, found, Chain}
-use Rattle.statelist.specs.Text.{State, Transition, Rooms, Seen, Meaning, reads, refused, readLines}
+use Rattle.statelist.specs.Text.{State, Transition, Rooms, Meaning, reads, refused, readLines}
 use Rattle.statelist.specs.Lists.{refusal, told, padded, targetsFrom, targetsOf, offsetsOf, filled}
 use Rattle.statelist.specs.Labels.{labelAt, comes}
 use Rattle.statelist.specs.declared.Reading.{Reading}
@@ -140,7 +139,8 @@ Fills offsets targets flags places r (refused number line) = told r ≡ refusal 
 abbrev pub Closed : (n e : ℕ) → List Transition → (offsets targets : List ℕ) → Reading → Type 0
 Closed n e transitions offsets targets r =
     ((n ≡ 0) × (r ≡ NoState))
-    ⊎ ((0 < n) × (r ≡ Graph n e) × (offsets ≡ padded (length offsets) (offsetsOf n transitions)) × (targets ≡ padded (length targets) (targetsOf n transitions)))
+    ⊎ ((0 < n) × (r ≡ Graph n e)
+    × (offsets ≡ padded (length offsets) (offsetsOf n transitions)) × (targets ≡ padded (length targets) (targetsOf n transitions)))
 
 -- what comes of the T lines, whatever was done for the S lines
 abbrev pub Closes : (text : List ℕ) (held n start : ℕ) (first second head next offsets targets : List ℕ) → Reading → Type 0

@@ -1,4 +1,5 @@
-// Reading a text into lists that are all 0: the S lines, the T lines, then the lists of the graph. A refused reading leaves the lists as they are then.
+// Reading a text into lists that are all 0: the S lines, the T lines, then the lists of the graph. A refused reading leaves the lists as they
+// are at the refused line.
 use crate::Reading;
 use crate::lists::build;
 use crate::rooms::states_held;
@@ -31,8 +32,8 @@ pub fn fill_all(
         × (now offsets ≡ zeros (length (now offsets))) × (now targets ≡ zeros (length (now targets)))
         × (now flags ≡ zeros (length (now flags))) × (now places ≡ zeros (length (now places))) ⌝ }
     ensures { λ r. ⌜ Fills (now (offsets .exit)) (now (targets .exit)) (now (flags .exit)) (now (places .exit)) r
-        (from-here (roomsOf (length (now (offsets .entry))) (length (now (targets .entry))) (length (now (flags .entry))) (length (now (places .entry))))
-        (now (text .entry)) 0 [] []) ⌝ }
+        (from-here (roomsOf (length (now (offsets .entry))) (length (now (targets .entry))) (length (now (flags .entry)))
+        (length (now (places .entry)))) (now (text .entry)) 0 [] []) ⌝ }
 {
     let kinds = kind_table();
     let mut first = [0usize; 4096];
@@ -121,7 +122,8 @@ fn close(
     e: usize,
     n: usize,
 ) -> Reading
-    requires { ⌜ (0 < n → Buildable (now from) (now to) (now offsets) (now targets) e n) × Counts (now offsets) (transitionsIn (now from) (now to) e) ⌝ }
+    requires { ⌜ (0 < n → Buildable (now from) (now to) (now offsets) (now targets) e n)
+        × Counts (now offsets) (transitionsIn (now from) (now to) e) ⌝ }
     ensures { λ r. ⌜ Closed n e (transitionsIn (now (from .entry)) (now (to .entry)) e) (now (offsets .exit)) (now (targets .exit)) r ⌝ }
 {
     if n == 0 {

@@ -38,7 +38,8 @@ pub fn read(
     text: &[u8],
 ) -> Reading
     ensures { λ r. ⌜ comes r (now (offsets .exit)) (now (targets .exit)) (now (flags .exit)) (now (places .exit))
-        ≡ outcome (length (now (offsets .entry))) (length (now (targets .entry))) (length (now (flags .entry))) (length (now (places .entry))) (now (text .entry)) ⌝ }
+        ≡ outcome (length (now (offsets .entry))) (length (now (targets .entry))) (length (now (flags .entry)))
+        (length (now (places .entry))) (now (text .entry)) ⌝ }
 {
     clear_all(offsets, targets, flags, places);
     if MOST_TEXT < text.len() {

@@ -1,7 +1,6 @@
 // The lent lists as rooms: how many states and transitions they hold, and all their words set to 0.
 ghost use mathlib.Core.Path.{_≡_};
-ghost use mathlib.Core.List.{List};
-ghost use lib.ListN.{length, replicate};
+ghost use lib.ListN.{length};
 ghost use Prim.Native.Nat.{min, _-_, _/_};
 ghost use Rattle.statelist.specs.Lists.{statesHeld, transitionsHeld, zeros};
 

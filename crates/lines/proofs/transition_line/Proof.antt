@@ -31,7 +31,8 @@ label-at-requires c κs =
     let here = c .before in
     let start = here .before .before .before .before .before in
     let front = sym (here .from .given .1) ∙ here .before .before .front-at .ensures in
-    (start .pre .0, omega (arith, start .pre .1, front-far (start .args .text .now) (start .args .at) 84 _ (here .from .given .0 .1 .0) (omega arith) front))
+    let far = front-far (start .args .text .now) (start .args .at) 84 _ (here .from .given .0 .1 .0) (omega arith) front in
+    (start .pre .0, omega (arith, start .pre .1, far))
 
 returns-2 : tie.Need-returns-2
 unfolding labelOf

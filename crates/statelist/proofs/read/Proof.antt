@@ -81,7 +81,11 @@ returns-2 c =
     let refusal = match-at .match .keys2 in
     let no-graph : (n e : ℕ) → filled .fill-all .result ≢ Graph n e =
     λ n e q. types.Run.miss (1 ∷ 2 ∷ 3 ∷ 4 ∷ 5 ∷ 6 ∷ 7 ∷ 8 ∷ []) 0 tt (rw q at refusal) in
-    let fills = rw (offsets-at .offsets .given, targets-at .targets .given, flags-at .flags .given, places-at .places .given) at (filled .fill-all .ensures) in
+    let o = offsets-at .offsets .given in
+    let t = targets-at .targets .given in
+    let f = flags-at .flags .given in
+    let p = places-at .places .given in
+    let fills = rw (o, t, f, p) at (filled .fill-all .ensures) in
     let cleared = again .clear-all2 .ensures in
     rw (
       cleared .0,
@@ -92,10 +96,10 @@ returns-2 c =
       targets2-at .targets2 .given,
       flags2-at .flags2 .given,
       places2-at .places2 .given,
-      offsets-at .offsets .given,
-      targets-at .targets .given,
-      flags-at .flags .given,
-      places-at .places .given,
+      o,
+      t,
+      f,
+      p,
     )
     (comes-refused _ _ _ _ _ _ _ _ _ (test .if1 .left) _ no-graph fills)
 
@@ -123,9 +127,14 @@ returns-3 c =
     let flags-at = places-at .before .before in
     let targets-at = flags-at .before .before in
     let offsets-at = targets-at .before .before in
-    let fills = rw (offsets-at .offsets .given, targets-at .targets .given, flags-at .flags .given, places-at .places .given, c .before .reading .given .1) at (filled .fill-all .ensures) in
+    let o = offsets-at .offsets .given in
+    let t = targets-at .targets .given in
+    let f = flags-at .flags .given in
+    let p = places-at .places .given in
+    let fills = rw (o, t, f, p, c .before .reading .given .1) at (filled .fill-all .ensures) in
     comes-graph _ _ _ _ _ _ _ _ _ (test .if1 .left) _ _
-    (offsets2-at .offsets2 .given ∙ offsets-at .offsets .given) (targets2-at .targets2 .given ∙ targets-at .targets .given) (flags2-at .flags2 .given ∙ flags-at .flags .given) (places2-at .places2 .given ∙ places-at .places .given) fills
+    (offsets2-at .offsets2 .given ∙ o) (targets2-at .targets2 .given ∙ t)
+    (flags2-at .flags2 .given ∙ f) (places2-at .places2 .given ∙ p) fills
 
 pub read-spec : {M : Type 1} → statement M
 read-spec =

@@ -1,6 +1,5 @@
 -- `kind_in` meets its contract: the table has the kind of every byte.
 use mathlib.Core.Path.{ap, _∙_}
-use native.Mathlib.Omega.{arith}
 use borrow.Author.Needs.{needs}
 use Rattle.lines.specs.Bytes.{kindOf}
 use Rattle.lines.proofs.kinds.kind_in.Statement.{statement}

@@ -26,7 +26,9 @@ returns-2 c =
     let built-here = c .before .before .before .before in
     let test = built-here .before .before .before in
     let built = built-here .build .ensures in
-    inr (omega (arith, test .if1 .left), refl, padded-whole _ _ _ (built .0) (c .before .before .before .offsets .given), padded-whole _ _ _ (built .1) (c .before .targets .given))
+    let offsets = padded-whole _ _ _ (built .0) (c .before .before .before .offsets .given) in
+    let targets = padded-whole _ _ _ (built .1) (c .before .targets .given) in
+    inr (omega (arith, test .if1 .left), refl, offsets, targets)
 
 pub close-spec : {M : Type 1} → statement M
 close-spec = tie.close (tie.spec returns build-requires same-length same-length-2 returns-2)

@@ -127,7 +127,8 @@ returns-2 c =
     let read = rw (told .at .given .1) at (read-here .read-states .ensures) in
     let held = room .states-held .ensures in
     rw (← held)
-    (done .fill-from .ensures _ _ _ (read .0) (omega (arith, read .0 .few, held, flags-at .flags .given)) (omega (arith, read .0 .few, held, places-at .places .given)))
+    (done .fill-from .ensures _ _ _ (read .0)
+    (omega (arith, read .0 .few, held, flags-at .flags .given)) (omega (arith, read .0 .few, held, places-at .places .given)))
 
 pub fill-all-spec : {M : Type 1} → statement M
 fill-all-spec =

@@ -92,7 +92,7 @@ returns-2 c =
     let read-here = told .before .before .before .before .before .before .before .before in
     let room = read-here .before .before .before .before .before .before in
     let read = rw (told .count .given .1) at (read-here .read-transitions .ensures) in
-    rw (room .transitions-held .ensures) at (closed-closes _ _ _ _ _ _ _ _ _ _ _ _ _ _ _ _ _ _ (read .0) (read .1) (done .close .ensures))
+    rw (room .transitions-held .ensures) at (closed-closes (read .0) (read .1) _ _ _ (done .close .ensures))
 
 pub fill-from-spec : {M : Type 1} → statement M
 fill-from-spec =

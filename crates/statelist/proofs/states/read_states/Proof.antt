@@ -12,7 +12,8 @@ use Rattle.statelist.proofs.Here.{byte-inside, state-here}
 use Rattle.statelist.proofs.states.read_states.Statement.{statement}
 use Rattle.statelist.proofs.states.read_states.Tie as tie
 
-record Inv (text : List ℕ) (held : ℕ) (flags₀ places₀ first₀ second₀ head₀ next₀ flags places first second head next : List ℕ) (at n : ℕ) : Type 0 where
+record Inv (text : List ℕ) (held : ℕ) (flags₀ places₀ first₀ second₀ head₀ next₀ flags places first second head next : List ℕ) (at n : ℕ)
+    : Type 0 where
   done : Declared text held flags places first second head next at n
   f-long : length flags ≡ length flags₀
   p-long : length places ≡ length places₀
@@ -22,7 +23,8 @@ record Inv (text : List ℕ) (held : ℕ) (flags₀ places₀ first₀ second₀
   x-long : length next ≡ length next₀
 
 abbrev Inv-loop : tie.InvT-loop
-Inv-loop kinds text held flags₀ places₀ first₀ second₀ head₀ next₀ at₀ n₀ flags places first second head next at n = Inv text held flags₀ places₀ first₀ second₀ head₀ next₀ flags places first second head next at n
+Inv-loop kinds text held flags₀ places₀ first₀ second₀ head₀ next₀ at₀ n₀ flags places first second head next at n =
+    Inv text held flags₀ places₀ first₀ second₀ head₀ next₀ flags places first second head next at n
 
 abbrev μ-loop : tie.MeasureT-loop
 μ-loop kinds text held flags₀ places₀ first₀ second₀ head₀ next₀ at₀ n₀ flags places first second head next at n = length text - at
@@ -30,7 +32,15 @@ abbrev μ-loop : tie.MeasureT-loop
 loop-holds : tie.Need-loop-holds Inv-loop μ-loop
 loop-holds c =
     let start = c .before .before .before .before .before .before .before .before in
-    record { done = start .pre .7; f-long = search needs; p-long = search needs; a-long = search needs; b-long = search needs; h-long = search needs; x-long = search needs }
+    record {
+      done = start .pre .7;
+      f-long = search needs;
+      p-long = search needs;
+      a-long = search needs;
+      b-long = search needs;
+      h-long = search needs;
+      x-long = search needs;
+    }
 
 begins-state-requires : tie.Need-begins-state-requires Inv-loop μ-loop
 begins-state-requires c κs = search needs
