@@ -4,8 +4,7 @@ use mathlib.Core.Path.{_≡_, sym, ap}
 use mathlib.Core.List.{List}
 use native.Mathlib.Omega.{arith}
 use Rattle.statelist.specs.declared.Reading.{Reading}
-use Rattle.statelist.specs.Lists.{Told, graph, refusal, told, outcome}
-use Rattle.statelist.specs.Labels.{comes}
+use Rattle.statelist.specs.Lists.{Told, graph, refusal, told, outcome, comes}
 use Rattle.statelist.proofs.Promises.{graph-low, refusal-low}
 use Rattle.skiffplank_c.specs.Answers.{Fits}
 

@@ -9,8 +9,8 @@ use native.Mathlib.Omega.{arith}
 use Rattle.graphs.specs.Words.{most-states, most-transitions, isGraph}
 use Rattle.statelist.specs.declared.Reading.the-variants.{Graph}
 use Rattle.statelist.specs.Text.{Seen, Meaning, reads, refused, meaning}
-use Rattle.statelist.specs.Lists.{graph, refusal, roomsOf, Outcome, filled, outcome}
-use Rattle.statelist.specs.Labels.{labelAt, comes}
+use Rattle.statelist.specs.Lists.{graph, refusal, roomsOf, Outcome, filled, outcome, comes}
+use Rattle.statelist.specs.Labels.{labelAt}
 use Rattle.statelist.proofs.Meaning.{numbers-only}
 use Rattle.statelist.proofs.Filled.{states-fit, transitions-fit, meaning-graph, offsets-first, targets-first, flags-first}
 use Rattle.statelist.proofs.Labels.{labels-differ}

@@ -77,6 +77,10 @@ pub record Outcome : Type 0 where
   pub flags : List ℕ
   pub places : List ℕ
 
+-- what comes of a call that returns r and leaves these lists
+abbrev pub comes : Reading → (offsets targets flags places : List ℕ) → Outcome
+comes r offsets targets flags places = record { tells = told r; offsets = offsets; targets = targets; flags = flags; places = places }
+
 -- 01: "A refused reading sets all lent words to 0."
 abbrev pub filled : (offsets targets flags places : ℕ) → Meaning → Outcome
 filled o t f p (reads seen) =

@@ -10,8 +10,7 @@ use fill::fill_all;
 use rooms::clear_all;
 ghost use mathlib.Core.Path.{_≡_};
 ghost use lib.ListN.{length};
-ghost use Rattle.statelist.specs.Lists.{outcome};
-ghost use Rattle.statelist.specs.Labels.{comes};
+ghost use Rattle.statelist.specs.Lists.{outcome, comes};
 
 // The most bytes that a text has.
 pub const MOST_TEXT: usize = 1048576;

@@ -1,5 +1,6 @@
 -- `next_state` meets its contract, a law for each refusal.
 use mathlib.Core.Path.{sym, _∙_}
+use native.Mathlib.Omega.{arith}
 use borrow.Author.Needs.{needs}
 use Rattle.statelist.proofs.Declared.{stop-bad, stop-twice, stop-full}
 use Rattle.statelist.proofs.Here.{state-here}
@@ -52,7 +53,7 @@ returns-3 c =
     let line = told .before .before in
     λ flags places t d.
     let here = state-here (sym (line .state-line .ensures) ∙ told .label .given .1) in
-    stop-full d here (sym (c .before .before .before .find .ensures) ∙ c .before .enum-told2 .given .1) (c .if1 .taken) t
+    stop-full d here (sym (c .before .before .before .find .ensures) ∙ c .before .enum-told2 .given .1) (omega (arith, c .if1 .taken)) t
 
 returns-4 : tie.Need-returns-4
 returns-4 c =
@@ -61,7 +62,7 @@ returns-4 c =
     record {
       stands = sym (line .state-line .ensures) ∙ told .label .given .1;
       new = sym (c .before .before .before .find .ensures) ∙ c .before .enum-told2 .given .1;
-      room = c .if1 .left;
+      room = omega (arith, c .if1 .left);
     }
 
 pub next-state-spec : {M : Type 1} → statement M
