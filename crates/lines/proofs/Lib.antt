@@ -11,3 +11,4 @@ pub mod Lines
 pub mod Records
 pub mod Words
 pub mod Found
+pub mod Settled
