@@ -44,13 +44,13 @@ fn clear(words: &mut [u16])
     }
 }
 
-fn clear_places(words: &mut [u32])
-    ensures { λ _. ⌜ now (words .exit) ≡ zeros (length (now (words .entry))) ⌝ }
+fn clear_places(places: &mut [u32])
+    ensures { λ _. ⌜ now (places .exit) ≡ zeros (length (now (places .entry))) ⌝ }
 {
-    let mut i = 0;
-    while i < words.len() {
-        words[i] = 0;
-        i += 1;
+    let mut w = 0;
+    while w < places.len() {
+        places[w] = 0;
+        w += 1;
     }
 }
 
