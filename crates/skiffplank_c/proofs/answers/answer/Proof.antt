@@ -1,5 +1,8 @@
 -- `answer` meets its contract, a law for each reading.
+use native.Mathlib.Omega.{arith}
 use borrow.Author.Needs.{needs}
+use Rattle.statelist.specs.Lists.{graph}
+use Rattle.skiffplank_c.specs.Answers.{Fits}
 use Rattle.skiffplank_c.proofs.answers.answer.Statement.{statement}
 use Rattle.skiffplank_c.proofs.answers.answer.Tie as tie
 
@@ -7,7 +10,9 @@ enum-known-reading : tie.Need-enum-known-reading
 enum-known-reading c = search needs
 
 graph-requires : tie.Need-graph-requires
-graph-requires c κs = rw (c .before .reading .given .1) at (c .before .before .before .pre)
+graph-requires c κs =
+    let fits : Fits (graph _ _) = rw (c .before .reading .given .1) at (c .before .before .before .pre) in
+    (omega (arith, fits .0, fits .1), omega (arith, fits .0, fits .1))
 
 enum-told : tie.Need-enum-told
 enum-told c = search needs
