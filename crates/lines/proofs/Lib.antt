@@ -1,4 +1,4 @@
--- Laws of the definitions in specs/, in the order in which they build on each other.
+-- Laws of the definitions in specs/, in the order in which they build on each other; at the end, that the contracts settle the calls.
 pub mod Table
 pub mod Bytes
 pub mod Run

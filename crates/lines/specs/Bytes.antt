@@ -1,10 +1,9 @@
 -- The kinds of bytes. 01: "The reader sorts bytes by a table of 256 byte kinds (upper, lower, digit, mark, tab, line feed, other)".
-use Prim.Native.Nat.{ℕ, _<_}
-use mathlib.Core.Path.{_≡_}
+use Prim.Native.Nat.{ℕ}
 use mathlib.Core.Bool.{Bool, cond, _&&_, _||_}
 use mathlib.Core.List.{List}
 use lib.Dec.{eqb, leb, ltb}
-use lib.ListN.{length, getD}
+use Rattle.graphs.specs.Lists as lists
 
 -- the numbers of the kinds; those below `tab` are the kinds of a label's bytes
 abbrev pub upper : ℕ
@@ -46,7 +45,6 @@ kindOf b =
 unfoldable pub inLabel : ℕ → Bool
 inLabel b = ltb (kindOf b) tab
 
--- a list that has the kind of every byte
-pub record Table (kinds : List ℕ) : Type 0 where
-  pub long : length kinds ≡ 256
-  pub right : (byte : ℕ) → byte < 256 → getD kinds byte 0 ≡ kindOf byte
+-- the kinds of all bytes
+unfoldable pub kindTable : List ℕ
+kindTable = lists.tab 0 256 kindOf

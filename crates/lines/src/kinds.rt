@@ -1,7 +1,7 @@
 // The table of the 256 byte kinds. 01: "upper, lower, digit, mark, tab, line feed, other".
 ghost use mathlib.Core.Path.{_≡_};
 ghost use Prim.Native.Nat.{_<_};
-ghost use Rattle.lines.specs.Bytes.{kindOf, Table};
+ghost use Rattle.lines.specs.Bytes.{kindOf, kindTable};
 
 // upper 0, lower 1, digit 2, mark 3, tab 4, line feed 5, other 6; a byte is named where a run begins or ends
 const KINDS: [u8; 256] = [
@@ -265,13 +265,13 @@ const KINDS: [u8; 256] = [
 
 // The table, for a caller that looks up many bytes: it lends it.
 pub fn table() -> [u8; 256]
-    ensures { λ r. ⌜ Table r ⌝ }
+    ensures { λ r. ⌜ r ≡ kindTable ⌝ }
 {
     KINDS
 }
 
 pub fn kind_in(kinds: &[u8], byte: u8) -> u8
-    requires { ⌜ Table (now kinds) ⌝ }
+    requires { ⌜ now kinds ≡ kindTable ⌝ }
     ensures { λ r. ⌜ r ≡ kindOf byte ⌝ }
 {
     kinds[wide(byte)]

@@ -6,7 +6,7 @@ ghost use mathlib.Core.Path.{_≡_};
 ghost use Prim.Native.Nat.{_+_, _<_, _≤_};
 ghost use lib.Dec.{eqb};
 ghost use lib.ListN.{getD, drop};
-ghost use Rattle.lines.specs.Bytes.{Table};
+ghost use Rattle.lines.specs.Bytes.{kindTable};
 ghost use Rattle.lines.specs.Found.{labelOf};
 ghost use Rattle.lines.specs.Scan.{most-place, partOf, labelHere, frontOf};
 
@@ -33,7 +33,7 @@ pub fn byte_is(text: &[u8], i: usize, byte: u8) -> bool
 
 // The first of up to eight label bytes from a place on, and their word.
 pub fn part_at(kinds: &[u8], text: &[u8], at: usize) -> Part
-    requires { ⌜ Table (now kinds) × (at ≤ most-place) ⌝ }
+    requires { ⌜ (now kinds ≡ kindTable) × (at ≤ most-place) ⌝ }
     ensures { λ r. ⌜ r ≡ partOf (drop at (now (text .entry))) ⌝ }
 {
     let mut len = 0;
@@ -55,7 +55,7 @@ pub fn part_at(kinds: &[u8], text: &[u8], at: usize) -> Part
 
 // The label of up to 16 bytes from a place on; it has no byte if none stands there.
 pub fn label_at(kinds: &[u8], text: &[u8], at: usize) -> Label
-    requires { ⌜ Table (now kinds) × (at + 8 ≤ most-place) ⌝ }
+    requires { ⌜ (now kinds ≡ kindTable) × (at + 8 ≤ most-place) ⌝ }
     ensures { λ r. ⌜ r ≡ labelOf (labelHere (drop at (now (text .entry)))) ⌝ }
 {
     let begin = part_at(kinds, text, at);
@@ -78,7 +78,7 @@ pub fn label_at(kinds: &[u8], text: &[u8], at: usize) -> Label
 
 // The front of a line, which is its letter, a tab, a label and a tab; the next field starts at `after`.
 pub fn front_at(kinds: &[u8], text: &[u8], at: usize, letter: u8) -> Front
-    requires { ⌜ Table (now kinds) × (at + 10 ≤ most-place) × (0 < letter) ⌝ }
+    requires { ⌜ (now kinds ≡ kindTable) × (at + 10 ≤ most-place) × (0 < letter) ⌝ }
     ensures { λ r. ⌜ r ≡ frontOf at letter (drop at (now (text .entry))) ⌝ }
 {
     if !byte_is(text, at, letter) {

@@ -6,7 +6,7 @@ use mathlib.Core.Path.{_≡_}
 use mathlib.Core.Bool.{Bool, cond, _&&_}
 use mathlib.Core.List.{List}
 use lib.Dec.{eqb}
-use lib.ListN.{length, getD}
+use lib.ListN.{length, getD, set}
 use Rattle.pairs.specs.declared.Found.{Found}
 use Rattle.pairs.specs.declared.Found.the-variants.{At, Nothing}
 
@@ -37,6 +37,22 @@ bucketOf a b = (a % 65521 * 4099 + b % 65521) % buckets
 -- the pair of number i is of bucket h
 unfoldable pub inBucket : List ℕ → List ℕ → ℕ → ℕ → Bool
 inBucket first second h i = eqb (bucketOf (getD first i 0) (getD second i 0)) h
+
+-- the four lists: the pairs, and the chains through them
+pub record Lists : Type 0 where
+  pub firsts : List ℕ
+  pub seconds : List ℕ
+  pub heads : List ℕ
+  pub nexts : List ℕ
+
+abbrev pub lists : (first second head next : List ℕ) → Lists
+lists first second head next = record { firsts = first; seconds = second; heads = head; nexts = next }
+
+-- the pair a, b becomes number n, at the front of its chain
+abbrev pub inserted : Lists → ℕ → ℕ → ℕ → Lists
+inserted l n a b =
+    let h = bucketOf a b in
+    record { firsts = set (l .firsts) n a; seconds = set (l .seconds) n b; heads = set (l .heads) h (n + 1); nexts = set (l .nexts) n (getD (l .heads) h 0) }
 
 pub record Chain (first second head next : List ℕ) (n : ℕ) : Type 0 where
   pub heads : length head ≡ buckets

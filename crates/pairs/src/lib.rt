@@ -6,9 +6,9 @@ use words::is_pair;
 use words::narrow;
 use words::wide;
 ghost use mathlib.Core.Path.{_≡_};
-ghost use Prim.Native.Nat.{_+_, _<_};
-ghost use lib.ListN.{length, getD, set};
-ghost use Rattle.pairs.specs.Pairs.{isPair, found, bucketOf, buckets, Chain};
+ghost use Prim.Native.Nat.{_<_};
+ghost use lib.ListN.{length};
+ghost use Rattle.pairs.specs.Pairs.{isPair, found, buckets, Chain, lists, inserted};
 
 // How many chains there are.
 pub const BUCKETS: usize = 16384;
@@ -54,10 +54,8 @@ pub fn insert(
     b: usize,
 )
     requires { ⌜ (length (now head) ≡ buckets) × (n < length (now first)) × (n < length (now second)) × (n < length (now next)) × (n < 65535) ⌝ }
-    ensures { λ _. ⌜ (now (first .exit) ≡ set (now (first .entry)) n a)
-        × (now (second .exit) ≡ set (now (second .entry)) n b)
-        × (now (head .exit) ≡ set (now (head .entry)) (bucketOf a b) (n + 1))
-        × (now (next .exit) ≡ set (now (next .entry)) n (getD (now (head .entry)) (bucketOf a b) 0)) ⌝ }
+    ensures { λ _. ⌜ lists (now (first .exit)) (now (second .exit)) (now (head .exit)) (now (next .exit))
+        ≡ inserted (lists (now (first .entry)) (now (second .entry)) (now (head .entry)) (now (next .entry))) n a b ⌝ }
 {
     let h = bucket(a, b);
     first[n] = a;

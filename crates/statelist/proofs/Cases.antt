@@ -138,6 +138,9 @@ rows =
     }
     -- an S line follows a T line
     ∷ refused 4 3 3 6 (S A plain ++ (T A A ++ S B accepting)) 2 3
+    -- that comes before declared, and before the room
+    ∷ refused 4 3 3 6 (S A plain ++ (T A A ++ S A accepting)) 2 3
+    ∷ refused 2 3 3 6 (S A plain ++ (T A A ++ S B accepting)) 2 3
     -- the last line has no line feed
     ∷ refused 4 3 3 6 (S A plain ++ state B accepting) 2 2
     -- a blank line
@@ -148,6 +151,8 @@ rows =
     ∷ refused 2 3 3 6 (S A plain ++ S A accepting) 3 2
     -- one transition more than the rooms hold
     ∷ refused 4 1 3 6 (S A plain ++ (S B accepting ++ (T A A ++ T A B))) 7 4
+    -- not declared comes before the room
+    ∷ refused 4 1 3 6 (S A plain ++ (S B accepting ++ (T A A ++ T A l7))) 4 4
     -- the pair comes before the room
     ∷ refused 4 1 3 6 (S A plain ++ (S B accepting ++ (T A A ++ T A A))) 5 4
     -- rooms of size 0
@@ -158,5 +163,64 @@ pub rows-right : Right rows
 unfolding tab any all same between kindOf inLabel onto cut isLabel isState isTransition flagOf
     isNil declared numberOf transitionOf stood withState withTransition stateLine transitionLine oneLine atEnd readLines meaning
     padded placesOf flagsOf targetsFrom targetsOf offsetsOf roomsOf outcome
-rows-right =
-    (refl, (refl, (refl, (refl, (refl, (refl, (refl, (refl, (refl, (refl, (refl, (refl, (refl, (refl, (refl, (refl, (refl, tt)))))))))))))))))
+rows-right = (
+  refl,
+  (
+    refl,
+    (
+      refl,
+      (
+        refl,
+        (
+          refl,
+          (
+            refl,
+            (
+              refl,
+              (
+                refl,
+                (
+                  refl,
+                  (
+                    refl,
+                    (
+                      refl,
+                      (
+                        refl,
+                        (
+                          refl,
+                          (
+                            refl,
+                            (
+                              refl,
+                              (
+                                refl,
+                                (
+                                  refl,
+                                  (
+                                    refl,
+                                    (
+                                      refl,
+                                      (
+                                        refl,
+                                        tt,
+                                      ),
+                                    ),
+                                  ),
+                                ),
+                              ),
+                            ),
+                          ),
+                        ),
+                      ),
+                    ),
+                  ),
+                ),
+              ),
+            ),
+          ),
+        ),
+      ),
+    ),
+  ),
+)

@@ -18,7 +18,7 @@ ghost use Rattle.statelist.specs.Text.{most-text};
 ghost use Rattle.statelist.specs.Lists.{zeros, roomsOf, transitionsHeld};
 ghost use Rattle.statelist.specs.Loops.{transitionsIn, from-here, Fills, Closed, Closes};
 ghost use Rattle.statelist.specs.Build.{Buildable, Counts};
-ghost use Rattle.lines.specs.Bytes.{Table};
+ghost use Rattle.lines.specs.Bytes.{kindTable};
 ghost use Rattle.pairs.specs.Pairs.{Chain};
 
 pub fn fill_all(
@@ -83,7 +83,7 @@ fn fill_from(
 ) -> Reading
     requires { ⌜ (length (now text) ≤ most-text) × (start ≤ length (now text)) × (getD (now text) start 0 ≢ 83)
         × (n ≤ most-states) × (n ≤ length (now offsets) - 1) × Chain (now first) (now second) (now head) (now next) n
-        × (now offsets ≡ zeros (length (now offsets))) × (now targets ≡ zeros (length (now targets))) × Table (now kinds) ⌝ }
+        × (now offsets ≡ zeros (length (now offsets))) × (now targets ≡ zeros (length (now targets))) × (now kinds ≡ kindTable) ⌝ }
     ensures { λ r. ⌜ Closes (now (text .entry)) (transitionsHeld (length (now (targets .entry)))) n start
         (now (first .entry)) (now (second .entry)) (now (head .entry)) (now (next .entry)) (now (offsets .exit)) (now (targets .exit)) r ⌝ }
 {

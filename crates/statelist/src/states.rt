@@ -12,7 +12,7 @@ ghost use Prim.Native.Nat.{_+_, _*_, _≤_, _<_};
 ghost use lib.Dec.{eqb};
 ghost use lib.ListN.{length, getD, set};
 ghost use Rattle.graphs.specs.Words.{most-states};
-ghost use Rattle.lines.specs.Bytes.{Table};
+ghost use Rattle.lines.specs.Bytes.{kindTable};
 ghost use Rattle.pairs.specs.Pairs.{buckets, bucketOf, Chain};
 ghost use Rattle.statelist.specs.Text.{most-text};
 ghost use Rattle.statelist.specs.Loops.{Declared, StateNext, StatesRead};
@@ -42,7 +42,7 @@ pub fn read_states(
         × (held ≤ length (now flags)) × (2 * held ≤ length (now places))
         × (held ≤ length (now first)) × (held ≤ length (now second)) × (held ≤ length (now next))
         × Declared (now text) held (now flags) (now places) (now first) (now second) (now head) (now next) 0 0
-        × Table (now kinds) ⌝ }
+        × (now kinds ≡ kindTable) ⌝ }
     ensures { λ r. ⌜ StatesRead (now (text .entry)) held (now (flags .exit)) (now (places .exit))
         (now (first .exit)) (now (second .exit)) (now (head .exit)) (now (next .exit)) r ⌝ }
 {
@@ -97,7 +97,7 @@ fn next_state(
     n: usize,
 ) -> NextState
     requires { ⌜ (length (now text) ≤ most-text) × (at < length (now text)) × (getD (now text) at 0 ≡ 83) × (n ≤ most-states)
-        × Chain (now first) (now second) (now head) (now next) n × Table (now kinds) ⌝ }
+        × Chain (now first) (now second) (now head) (now next) n × (now kinds ≡ kindTable) ⌝ }
     ensures { λ r. ⌜ StateNext (now (text .entry)) held (now (first .entry)) (now (second .entry)) (now (head .entry)) (now (next .entry)) at n r ⌝ }
 {
     let StateLine::State {

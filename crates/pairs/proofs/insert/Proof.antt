@@ -56,7 +56,7 @@ same-length-4 : tie.Need-same-length-4
 same-length-4 c = search needs
 
 returns : tie.Need-returns
-returns c = rw (c .before .before .bucket .ensures .0, c .narrow .ensures) (refl, refl, refl, refl)
+returns c = rw (c .before .before .bucket .ensures .0, c .narrow .ensures)
 
 pub insert-spec : {M : Type 1} → statement M
 insert-spec =

@@ -1,5 +1,5 @@
 -- `add_state` meets its contract.
-use mathlib.Core.Path.{refl}
+use mathlib.Core.Path.{refl, ap}
 use borrow.Author.Needs.{needs}
 use Rattle.statelist.proofs.states.add_state.Statement.{statement}
 use Rattle.statelist.proofs.states.add_state.Tie as tie
@@ -64,7 +64,7 @@ returns c =
     let small2 = put-here .before .before .before .before .before in
     let small = small2 .before in
     let put = put-here .insert .ensures in
-    (refl, rw (small .narrow .ensures, small2 .narrow2 .ensures), put .0, put .1, put .2, put .3)
+    (refl, rw (small .narrow .ensures, small2 .narrow2 .ensures), ap (λ l. l .firsts) put, ap (λ l. l .seconds) put, ap (λ l. l .heads) put, ap (λ l. l .nexts) put)
 
 pub add-state-spec : {M : Type 1} → statement M
 add-state-spec =
