@@ -1,5 +1,4 @@
 -- `insert` meets its contract: four stores.
-use mathlib.Core.Path.{refl}
 use borrow.Author.Needs.{needs}
 use Rattle.pairs.proofs.insert.Statement.{statement}
 use Rattle.pairs.proofs.insert.Tie as tie
