@@ -1,5 +1,5 @@
--- 01's cases of texts, and small texts for each refusal, as rows of one table: the lengths of the four lists, the text, and what comes of it. The
--- definitions compute them.
+-- 01's cases of texts, and small texts for refusals 2 to 7 and their order, as rows of two tables: the lengths of the four lists, the text, and what
+-- comes of it. The definitions compute them.
 use Prim.Native.Nat.{ℕ}
 use mathlib.Core.Path.{_≡_, refl}
 use mathlib.Core.List.{List, [], _∷_, _++_}
@@ -67,8 +67,9 @@ abbrev Right : List Row → Type 0
 Right [] = Unit {0}
 Right (r ∷ rows) = (outcome (r .offsets) (r .targets) (r .flags) (r .places) (r .text) ≡ r .comes) × Right rows
 
-abbrev rows : List Row
-rows =
+-- 01's cases
+abbrev texts : List Row
+texts =
     -- the 0417 text
     record {
       offsets = 4;
@@ -136,8 +137,13 @@ rows =
             places = 2 ∷ 1 ∷ 8 ∷ 1 ∷ 0 ∷ 0 ∷ [];
           };
     }
+    ∷ []
+
+-- refusals, and which of two comes first
+abbrev refusals : List Row
+refusals =
     -- an S line follows a T line
-    ∷ refused 4 3 3 6 (S A plain ++ (T A A ++ S B accepting)) 2 3
+    refused 4 3 3 6 (S A plain ++ (T A A ++ S B accepting)) 2 3
     -- that comes before declared, and before the room
     ∷ refused 4 3 3 6 (S A plain ++ (T A A ++ S A accepting)) 2 3
     ∷ refused 2 3 3 6 (S A plain ++ (T A A ++ S B accepting)) 2 3
@@ -159,68 +165,14 @@ rows =
     ∷ refused 0 0 0 0 (S A plain) 6 1
     ∷ []
 
-pub rows-right : Right rows
+pub texts-right : Right texts
 unfolding tab any all same between kindOf inLabel onto cut isLabel isState isTransition flagOf
     isNil declared numberOf transitionOf stood withState withTransition stateLine transitionLine oneLine atEnd readLines meaning
     padded placesOf flagsOf targetsFrom targetsOf offsetsOf roomsOf outcome
-rows-right = (
-  refl,
-  (
-    refl,
-    (
-      refl,
-      (
-        refl,
-        (
-          refl,
-          (
-            refl,
-            (
-              refl,
-              (
-                refl,
-                (
-                  refl,
-                  (
-                    refl,
-                    (
-                      refl,
-                      (
-                        refl,
-                        (
-                          refl,
-                          (
-                            refl,
-                            (
-                              refl,
-                              (
-                                refl,
-                                (
-                                  refl,
-                                  (
-                                    refl,
-                                    (
-                                      refl,
-                                      (
-                                        refl,
-                                        tt,
-                                      ),
-                                    ),
-                                  ),
-                                ),
-                              ),
-                            ),
-                          ),
-                        ),
-                      ),
-                    ),
-                  ),
-                ),
-              ),
-            ),
-          ),
-        ),
-      ),
-    ),
-  ),
-)
+texts-right = (refl, (refl, (refl, (refl, (refl, (refl, (refl, (refl, (refl, tt)))))))))
+
+pub refusals-right : Right refusals
+unfolding tab any all same between kindOf inLabel onto cut isLabel isState isTransition flagOf
+    isNil declared numberOf transitionOf stood withState withTransition stateLine transitionLine oneLine atEnd readLines meaning
+    padded placesOf flagsOf targetsFrom targetsOf offsetsOf roomsOf outcome
+refusals-right = (refl, (refl, (refl, (refl, (refl, (refl, (refl, (refl, (refl, (refl, (refl, tt)))))))))))
