@@ -6,3 +6,4 @@ pub mod Bits
 pub mod Pile
 pub mod Room
 pub mod Stretch
+pub mod Words

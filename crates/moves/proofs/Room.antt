@@ -13,16 +13,12 @@ use Rattle.graphs.proofs.Tests.{same?}
 use Rattle.moves.specs.declared.Place.{Place}
 use Rattle.moves.specs.declared.Place.the-variants.{Fresh, Outer, Inner, Waiting, Done}
 use Rattle.moves.specs.Machine.{Worker, Machine}
-use Rattle.moves.specs.Room.{bits, pile, kindWord, seedWord, span, stretch, spans, room, roomSize, Fits, AllFit, SameWorker, SameBelow}
+use Rattle.moves.specs.Room.{bits, pile, kindWord, seedWord, placeOf, span, stretch, spans, room, roomSize, Fits, AllFit, SameWorker, SameBelow}
 use Rattle.moves.proofs.Joined.{split}
 use Rattle.graphs.specs.Lists.{tab}
 use Rattle.graphs.proofs.Tab.{tab-long, tab-ext, tab-same}
 use Rattle.moves.proofs.Bits.{bits-long, bits-ext, bits-same}
 use Rattle.moves.proofs.Pile.{pile-long, pile-same}
-
--- the place with the words k and z
-abbrev pub placeOf : ℕ → ℕ → Place
-placeOf k z = cond (eqb k 0) Fresh (cond (eqb k 1) Outer (cond (eqb k 2) (Inner z) (cond (eqb k 3) (Waiting z) Done)))
 
 pub place-words : (q : Place) → placeOf (kindWord q) (seedWord q) ≡ q
 place-words Fresh = refl

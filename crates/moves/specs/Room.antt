@@ -2,8 +2,9 @@
 -- have different forms.
 use Prim.Native.Nat.{ℕ, zero, suc, _+_, _-_, _*_, _<_, _≤_}
 use mathlib.Core.Path.{_≡_}
-use mathlib.Core.Bool.{Bool, true, false}
+use mathlib.Core.Bool.{Bool, true, false, cond}
 use mathlib.Core.List.{List, [], _∷_, _++_, reverse}
+use lib.Dec.{eqb}
 use lib.ListN.{length, replicate}
 use Rattle.graphs.specs.Lists.{tab}
 use Rattle.moves.specs.declared.Place.{Place}
@@ -35,6 +36,10 @@ seedWord Outer = 0
 seedWord (Inner z) = z
 seedWord (Waiting z) = z
 seedWord Done = 0
+
+-- the place with these two words
+abbrev pub placeOf : ℕ → ℕ → Place
+placeOf k z = cond (eqb k 0) Fresh (cond (eqb k 1) Outer (cond (eqb k 2) (Inner z) (cond (eqb k 3) (Waiting z) Done)))
 
 -- the words of one worker's stretch, and their number
 unfoldable pub span : ℕ → Worker → List ℕ

@@ -2,6 +2,7 @@
 // has a method for each move that changes it, which takes the place and hands it back; the tally is raised by the move.
 ghost use mathlib.Core.Path.{_≡_};
 ghost use Rattle.moves.specs.Place.{started, left, seeded, backed, painted};
+ghost use Rattle.moves.specs.Room.{kindWord, seedWord, placeOf};
 ghost use Rattle.moves.specs.Tally.{raised, entered, joined, waited, changed, Low};
 
 // 01: "not started, outer search, inner search with its seed, waiting with its seed, or done"
@@ -83,6 +84,44 @@ impl Place {
             Place::Waiting(_) => { if last { Place::Done } else { Place::Outer } }
             Place::Done => Place::Done,
         }
+    }
+
+    // The two words of a place in the room.
+    pub fn kind(self) -> u16
+        ensures { λ r. ⌜ r ≡ kindWord self ⌝ }
+    {
+        match self {
+            Place::Fresh => 0,
+            Place::Outer => 1,
+            Place::Inner(_) => 2,
+            Place::Waiting(_) => 3,
+            Place::Done => 4,
+        }
+    }
+
+    pub fn seed(self) -> u16
+        ensures { λ r. ⌜ r ≡ seedWord self ⌝ }
+    {
+        match self {
+            Place::Fresh => 0,
+            Place::Outer => 0,
+            Place::Inner(s) => s,
+            Place::Waiting(s) => s,
+            Place::Done => 0,
+        }
+    }
+}
+
+// The place with these two words.
+pub fn place_of(kind: u16, seed: u16) -> Place
+    ensures { λ r. ⌜ r ≡ placeOf kind seed ⌝ }
+{
+    match kind {
+        0 => Place::Fresh,
+        1 => Place::Outer,
+        2 => Place::Inner(seed),
+        3 => Place::Waiting(seed),
+        _ => Place::Done,
     }
 }
 

@@ -1,0 +1,214 @@
+-- What stands at a word of a stretch and of the room, and what a store there makes of the machine. `Seen` says that a list begins with the form
+-- of a machine of n states and P workers; its words beyond the form are `rest`.
+use Prim.Native.Nat.{ℕ, suc, _+_, _-_, _*_, _<_, _≤_}
+use mathlib.Core.Path.{_≡_, refl, sym, ap, subst, _∙_}
+use mathlib.Core.Bool.{Bool, true, false}
+use mathlib.Core.List.{List, [], _∷_, _++_, append-assoc, reverse, reverse-cons}
+use lib.Dec.{eqb}
+use lib.ListN.{length, getD, set, take, drop, replicate, length-append, length-reverse, List·getD-append}
+use lib.Seq.{getD-append-add, getD-at, take-at, drop-at, set-append-left, length-take-le}
+use native.Mathlib.Nat.{suc-mul, mul-le-mul-right}
+use native.Mathlib.Omega.{arith}
+use Rattle.graphs.specs.Lists.{upd, tab}
+use Rattle.graphs.proofs.Tab.{tab-long, tab-word}
+use Rattle.moves.specs.Machine.{Worker, Machine}
+use Rattle.moves.specs.Changes.{put}
+use Rattle.moves.specs.Room.{bit, bits, pile, kindWord, seedWord, span, stretch, spans, room, roomSize, stretchAt, Fits, AllFit}
+use Rattle.moves.proofs.Bits.{bits-long, bits-upd}
+use Rattle.moves.proofs.Pile.{pile-long}
+use Rattle.moves.proofs.Room.{span-long, room-long}
+use Rattle.moves.proofs.Stretch.{room-at, room-put}
+
+-- a store past the n words of the first list
+pub set-past : (a b : List ℕ) (i v n : ℕ) → length a ≡ n → set (a ++ b) (n + i) v ≡ a ++ set b i v
+set-past [] b i v n e = let at : n + i ≡ i = omega arith in rw at
+set-past (x ∷ a) b i v n e =
+    let at : n + i ≡ suc (length a + i) = omega arith in
+    rw at (ap (λ k. x ∷ k) (set-past a b i v (length a) refl))
+
+-- a word that is 1 or 0 for a truth, tested
+pub bit-test : (b : Bool) → eqb (bit b) 1 ≡ b
+bit-test true = refl
+bit-test false = refl
+
+-- the stack's word under the depth
+pub pile-top : (n s : ℕ) (u : List ℕ) → getD (pile n (s ∷ u)) (length u) 0 ≡ s
+unfolding pile
+pile-top n s u = rw (reverse-cons s u, append-assoc) (getD-at (reverse u) s _ 0 (length u) (length-reverse u))
+
+-- five parts of n words, and the rest
+record Parts (n : ℕ) : Type 0 where
+  a : List ℕ
+  b : List ℕ
+  c : List ℕ
+  d : List ℕ
+  e : List ℕ
+  q : List ℕ
+  a-long : length a ≡ n
+  b-long : length b ≡ n
+  c-long : length c ≡ n
+  d-long : length d ≡ n
+  e-long : length e ≡ n
+
+module _ (n : ℕ) where
+  onward : (a b : List ℕ) (i : ℕ) → length a ≡ n → getD (a ++ b) (n + i) 0 ≡ getD b i 0
+  onward a b i e = subst (λ k. getD (a ++ b) (k + i) 0 ≡ getD b i 0) e (getD-append-add a b i 0)
+
+  module _ (x : Parts n) where
+    abbrev joined : List ℕ
+    joined = x .a ++ (x .b ++ (x .c ++ (x .d ++ (x .e ++ x .q))))
+
+    from-b : (i : ℕ) → getD joined (n + i) 0 ≡ getD (x .b ++ (x .c ++ (x .d ++ (x .e ++ x .q)))) i 0
+    from-b i = onward (x .a) _ i (x .a-long)
+
+    from-c : (i : ℕ) → getD joined (2 * n + i) 0 ≡ getD (x .c ++ (x .d ++ (x .e ++ x .q))) i 0
+    from-c i = let at : 2 * n + i ≡ n + (n + i) = omega arith in rw at (from-b (n + i) ∙ onward (x .b) _ i (x .b-long))
+
+    from-d : (i : ℕ) → getD joined (3 * n + i) 0 ≡ getD (x .d ++ (x .e ++ x .q)) i 0
+    from-d i = let at : 3 * n + i ≡ 2 * n + (n + i) = omega arith in rw at (from-c (n + i) ∙ onward (x .c) _ i (x .c-long))
+
+    from-e : (i : ℕ) → getD joined (4 * n + i) 0 ≡ getD (x .e ++ x .q) i 0
+    from-e i = let at : 4 * n + i ≡ 3 * n + (n + i) = omega arith in rw at (from-d (n + i) ∙ onward (x .d) _ i (x .d-long))
+
+    at-q : (i : ℕ) → getD joined (5 * n + i) 0 ≡ getD (x .q) i 0
+    at-q i = let at : 5 * n + i ≡ 4 * n + (n + i) = omega arith in rw at (from-e (n + i) ∙ onward (x .e) _ i (x .e-long))
+
+    module _ (i : ℕ) (h : i < n) where
+      at-a : getD joined i 0 ≡ getD (x .a) i 0
+      at-a = List·getD-append (x .a) _ 0 i (omega (arith, x .a-long))
+
+      at-b : getD joined (n + i) 0 ≡ getD (x .b) i 0
+      at-b = from-b i ∙ List·getD-append (x .b) _ 0 i (omega (arith, x .b-long))
+
+      at-c : getD joined (2 * n + i) 0 ≡ getD (x .c) i 0
+      at-c = from-c i ∙ List·getD-append (x .c) _ 0 i (omega (arith, x .c-long))
+
+      at-d : getD joined (3 * n + i) 0 ≡ getD (x .d) i 0
+      at-d = from-d i ∙ List·getD-append (x .d) _ 0 i (omega (arith, x .d-long))
+
+      at-e : getD joined (4 * n + i) 0 ≡ getD (x .e) i 0
+      at-e = from-e i ∙ List·getD-append (x .e) _ 0 i (omega (arith, x .e-long))
+
+  -- the words of a stretch
+  module _ (w : Worker) (fits : Fits n w) where
+    abbrev parts : Parts n
+    parts =
+        record {
+          a = bits n (w .cyan);
+          b = bits n (w .R);
+          c = pile n (w .outer);
+          d = pile n (w .inner);
+          e = tab 0 n (w .taken);
+          q = kindWord (w .place) ∷ seedWord (w .place) ∷ length (w .outer) ∷ length (w .inner) ∷ [];
+          a-long = bits-long n (w .cyan);
+          b-long = bits-long n (w .R);
+          c-long = pile-long n (w .outer) (fits .outer-fits);
+          d-long = pile-long n (w .inner) (fits .inner-fits);
+          e-long = tab-long 0 n (w .taken);
+        }
+
+    pub cyan-at : (s : ℕ) → s < n → getD (span n w) s 0 ≡ bit (w .cyan s)
+    unfolding span
+    cyan-at s h = at-a parts s h ∙ tab-word n (λ x. bit (w .cyan x)) s 0 h
+
+    pub R-at : (s : ℕ) → s < n → getD (span n w) (n + s) 0 ≡ bit (w .R s)
+    unfolding span
+    R-at s h = at-b parts s h ∙ tab-word n (λ x. bit (w .R x)) s 0 h
+
+    pub outer-at : (i : ℕ) → i < n → getD (span n w) (2 * n + i) 0 ≡ getD (pile n (w .outer)) i 0
+    unfolding span
+    outer-at i h = at-c parts i h
+
+    pub inner-at : (i : ℕ) → i < n → getD (span n w) (3 * n + i) 0 ≡ getD (pile n (w .inner)) i 0
+    unfolding span
+    inner-at i h = at-d parts i h
+
+    pub taken-at : (s : ℕ) → s < n → getD (span n w) (4 * n + s) 0 ≡ w .taken s
+    unfolding span
+    taken-at s h = at-e parts s h ∙ tab-word n (w .taken) s 0 h
+
+    -- the place and the depths
+    pub last-at : (i : ℕ) → getD (span n w) (5 * n + i) 0 ≡ getD (parts .q) i 0
+    unfolding span
+    last-at i = at-q parts i
+
+    pub outer-top : (s : ℕ) (u : List ℕ) → w .outer ≡ s ∷ u → getD (span n w) (2 * n + (length (w .outer) - 1)) 0 ≡ s
+    outer-top s u e =
+        let deep : length (w .outer) ≡ suc (length u) = ap length e in
+        let at : length (w .outer) - 1 ≡ length u = omega (arith, deep) in
+        rw at (outer-at (length u) (omega (arith, deep, fits .outer-fits)) ∙ rw e (pile-top n s u))
+
+    pub inner-top : (s : ℕ) (u : List ℕ) → w .inner ≡ s ∷ u → getD (span n w) (3 * n + (length (w .inner) - 1)) 0 ≡ s
+    inner-top s u e =
+        let deep : length (w .inner) ≡ suc (length u) = ap length e in
+        let at : length (w .inner) - 1 ≡ length u = omega (arith, deep) in
+        rw at (inner-at (length u) (omega (arith, deep, fits .inner-fits)) ∙ rw e (pile-top n s u))
+
+-- l begins with the form of m; the rest of it is given
+pub record Seen (n P : ℕ) (m : Machine) (rest l : List ℕ) : Type 0 where
+  pub form : l ≡ room n P m ++ rest
+  pub fits : AllFit n P m
+
+module _ (n P p : ℕ) (h : p < P) (m : Machine) (rest l : List ℕ) (seen : Seen n P m rest l) where
+  -- the words before p's stretch, and those after it
+  abbrev after : List ℕ
+  after = spans n (suc p) (P - suc p) (m .worker) ++ rest
+
+  before-long : length (room n p m) ≡ stretchAt n p
+  before-long = room-long n p m (λ q k. seen .fits q (omega arith))
+
+  own-long : length (span n (m .worker p)) ≡ stretch n
+  own-long = span-long n (m .worker p) (seen .fits p h)
+
+  cut : l ≡ room n p m ++ (span n (m .worker p) ++ after)
+  cut = seen .form ∙ rw (room-at n P p m h, append-assoc, append-assoc)
+
+  -- the stretch, and the room with another worker's words put in its place
+  pub lent : take (stretch n) (drop (stretchAt n p) l) ≡ span n (m .worker p)
+  lent = rw (cut, drop-at (room n p m) (span n (m .worker p) ++ after) (stretchAt n p) before-long) (take-at (span n (m .worker p)) after (stretch n) own-long)
+
+  pub put-back : (w : Worker) → take (stretchAt n p) l ++ (span n w ++ drop (stretch n) (drop (stretchAt n p) l)) ≡ room n P (put m p w) ++ rest
+  put-back w =
+      let front : take (stretchAt n p) l ≡ room n p m = rw cut (take-at (room n p m) (span n (m .worker p) ++ after) (stretchAt n p) before-long) in
+      let own : drop (stretchAt n p) l ≡ span n (m .worker p) ++ after = rw cut (drop-at (room n p m) (span n (m .worker p) ++ after) (stretchAt n p) before-long) in
+      rw (front, own, drop-at (span n (m .worker p)) after (stretch n) own-long, room-put n P p m w h, append-assoc, append-assoc)
+
+  pub own-word : (i : ℕ) → i < stretch n → getD l (stretchAt n p + i) 0 ≡ getD (span n (m .worker p)) i 0
+  own-word i k =
+      let start : stretchAt n p + i ≡ length (room n p m) + i = omega (arith, before-long) in
+      rw (start, cut, getD-append-add (room n p m) (span n (m .worker p) ++ after) i 0)
+      (List·getD-append (span n (m .worker p)) after 0 i (omega (arith, own-long)))
+
+module _ (n P : ℕ) (m : Machine) (rest l : List ℕ) (seen : Seen n P m rest l) where
+  shared : l ≡ bits n (m .blue) ++ (bits n (m .red) ++ (spans n 0 P (m .worker) ++ rest))
+  unfolding room
+  shared = seen .form ∙ rw (append-assoc, append-assoc)
+
+  pub long : length l ≡ roomSize n P + length rest
+  long = rw (seen .form, length-append, room-long n P m (seen .fits))
+
+  pub blue-word : (s : ℕ) → s < n → getD l s 0 ≡ bit (m .blue s)
+  blue-word s h =
+      rw shared (List·getD-append (bits n (m .blue)) _ 0 s (omega (arith, bits-long n (m .blue))) ∙ tab-word n (λ x. bit (m .blue x)) s 0 h)
+
+  pub red-word : (s : ℕ) → s < n → getD l (n + s) 0 ≡ bit (m .red s)
+  red-word s h =
+      rw shared
+      (onward n (bits n (m .blue)) _ s (bits-long n (m .blue))
+      ∙ List·getD-append (bits n (m .red)) _ 0 s (omega (arith, bits-long n (m .red)))
+      ∙ tab-word n (λ x. bit (m .red x)) s 0 h)
+
+  -- one more blue state is one store, and so is a change of one red word
+  pub blue-put : (s : ℕ) → s < n → set l s 1 ≡ room n P (record { blue = upd (m .blue) s true; red = m .red; worker = m .worker }) ++ rest
+  unfolding room
+  blue-put s h =
+      rw (shared, bits-upd n (m .blue) s true h, append-assoc, append-assoc)
+      (set-append-left (bits n (m .blue)) _ s 1 (omega (arith, bits-long n (m .blue))))
+
+  pub red-put : (s : ℕ) (b : Bool) → s < n
+      → set l (n + s) (bit b) ≡ room n P (record { blue = m .blue; red = upd (m .red) s b; worker = m .worker }) ++ rest
+  unfolding room
+  red-put s b h =
+      let past = set-past (bits n (m .blue)) (bits n (m .red) ++ (spans n 0 P (m .worker) ++ rest)) s (bit b) n (bits-long n (m .blue)) in
+      rw (shared, bits-upd n (m .red) s b h, append-assoc, append-assoc)
+      (past ∙ ap (λ k. bits n (m .blue) ++ k) (set-append-left (bits n (m .red)) _ s (bit b) (omega (arith, bits-long n (m .red)))))

@@ -1,0 +1,2 @@
+-- Clearing a list.
+pub mod Zeros

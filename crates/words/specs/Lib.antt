@@ -1,0 +1,1 @@
+-- Nothing: the contracts need no definition of their own.
