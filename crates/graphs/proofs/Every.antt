@@ -24,6 +24,11 @@ unfolding every
 every-of zero f h = refl
 every-of (suc n) f h = rw (h n (omega arith)) (every-of n f (λ i k. h i (omega arith)))
 
+pub every-ext : (n : ℕ) (f h : ℕ → Bool) → ((i : ℕ) → i < n → f i ≡ h i) → every n f ≡ every n h
+unfolding every
+every-ext zero f h e = refl
+every-ext (suc n) f h e = rw (e n (omega arith), every-ext n f h (λ i k. e i (omega arith)))
+
 pub every-more : (i : ℕ) (f : ℕ → Bool) → every i f ≡ true → f i ≡ true → every (i + 1) f ≡ true
 unfolding every
 every-more i f e h = rw (add-one, h) e
