@@ -8,10 +8,10 @@ use borrow.Author.Tests.{eq-eqb}
 use Rattle.graphs.specs.Words.{most-states}
 use Rattle.graphs.proofs.Words.{words-are}
 use Rattle.moves.specs.Room.{roomSize}
-use Rattle.search.specs.declared.standing.Standing.{Standing}
-use Rattle.search.specs.Refusals.{most-workers, refusalOf}
+use Rattle.steps.specs.declared.Standing.{Standing}
+use Rattle.limits.specs.Refusals.{most-workers, refusalOf}
 use Rattle.search.specs.Ends.{begun, begunBy}
-use Rattle.search.proofs.Refused.{Fine, fine}
+use Rattle.limits.proofs.Refused.{Fine, fine}
 
 module _ {number : ℕ} (l : List ℕ) (lasso : ℕ) (turns offsets targets flags : List ℕ) (P : ℕ)
     (e : number ≡ refusalOf (length l) lasso turns offsets targets flags P) (none : number ≡ 0) where

@@ -10,10 +10,11 @@ use Rattle.graphs.proofs.Tests.{clash}
 use Rattle.graphs.specs.Words.{graphOf}
 use Rattle.moves.specs.declared.Tally.{Tally}
 use Rattle.moves.specs.Tally.{raised, Low}
-use Rattle.search.specs.declared.standing.Standing.{Standing}
-use Rattle.search.specs.declared.standing.Moved.{Moved}
-use Rattle.search.specs.Standing.{after, Stood, TallyOf, Ready, MovedIn, Stepped, Underway, Begun, Ended}
-use Rattle.search.proofs.Stood.{turn-left}
+use Rattle.steps.specs.declared.Standing.{Standing}
+use Rattle.steps.specs.declared.Moved.{Moved}
+use Rattle.steps.specs.Standing.{after, Stood, TallyOf, Ready, MovedIn}
+use Rattle.search.specs.Turns.{Stepped, Underway, Begun, Ended}
+use Rattle.steps.proofs.Stood.{turn-left}
 use Rattle.search.proofs.Tallied.{tally-low}
 
 module _ (offsets targets flags turns : List ℕ) (P : ℕ) where

@@ -6,9 +6,10 @@ use mathlib.Core.List.{List}
 use lib.ListN.{length}
 use Rattle.moves.specs.declared.Tally.{Tally}
 use Rattle.moves.specs.Tally.{raised, Low}
-use Rattle.search.specs.declared.standing.Standing.{Standing}
-use Rattle.search.specs.declared.standing.Moved.{Moved}
-use Rattle.search.specs.Standing.{allRounds, ReadyRound, MovedInRound, SteppedRound, BegunRounds, EndedRounds}
+use Rattle.steps.specs.declared.Standing.{Standing}
+use Rattle.steps.specs.declared.Moved.{Moved}
+use Rattle.steps.specs.Standing.{allRounds, ReadyRound, MovedInRound}
+use Rattle.search.specs.Turns.{SteppedRound, BegunRounds, EndedRounds}
 use Rattle.search.proofs.Looped as list
 
 module _ (offsets targets flags : List ℕ) (P : ℕ) where

@@ -22,17 +22,18 @@ use Rattle.moves.proofs.Words.{Seen}
 use Rattle.theory.proofs.Demands.{graph-of-words}
 use Rattle.theory.proofs.Rooms.{run-fits}
 use Rattle.search.specs.declared.Outcome.{Outcome}
-use Rattle.search.specs.declared.standing.Stop.{Stop}
-use Rattle.search.specs.declared.standing.Stop.the-variants.{Open, Quiet, Found, Refused}
-use Rattle.search.specs.declared.standing.Standing.{Standing}
+use Rattle.steps.specs.declared.Stop.{Stop}
+use Rattle.steps.specs.declared.Stop.the-variants.{Open, Quiet, Found, Refused}
+use Rattle.steps.specs.declared.Standing.{Standing}
 use Rattle.search.specs.Outcomes.{told, told-refusal, Lent, lent, tellsOf, shown, left, unless}
-use Rattle.search.specs.Verdict.{answerOf}
-use Rattle.search.specs.Standing.{Finds, stopped, standingIn, after, Stood, TallyOf, Underway, Begun, Ended}
+use Rattle.steps.specs.Verdict.{answerOf}
+use Rattle.steps.specs.Standing.{Finds, stopped, standingIn, after, Stood, TallyOf}
+use Rattle.search.specs.Turns.{Underway, Begun, Ended}
 use Rattle.search.specs.Ends.{resetOf, FinishingBy, Finishing, lassoBy, finishedLasso, outcomeBy, finishedOutcome}
-use Rattle.search.proofs.Refused.{refused-told}
+use Rattle.search.proofs.Told.{refused-told}
 use Rattle.search.proofs.Fresh.{fresh-room}
 use Rattle.search.proofs.Shown.{shown-words, found-told, stacked-fits}
-use Rattle.search.proofs.Stood.{standing-used, standing-stop, named-first, stood-start, at-end}
+use Rattle.steps.proofs.Stood.{standing-used, standing-stop, named-first, stood-start, at-end}
 use Rattle.search.proofs.Opened.{Start, Opened}
 
 module _ (offsets targets flags turns : List ℕ) (P number : ℕ) (low : (number ≡ 0) ⊎ ((9 ≤ number) × (number ≤ 13))) (l lasso : List ℕ) (t : Tally)

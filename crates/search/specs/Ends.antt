@@ -9,12 +9,12 @@ use Rattle.moves.specs.Tally.{zeroes}
 use Rattle.moves.specs.Room.{roomSize, stretchAt}
 use Rattle.search.specs.declared.Outcome.{Outcome}
 use Rattle.search.specs.declared.Outcome.the-variants.{None, Undecided, NoWorkers, NoGraph, RoomShort, LassoShort, NoSuchWorker}
-use Rattle.search.specs.declared.standing.Stop.{Stop}
-use Rattle.search.specs.declared.standing.Stop.the-variants.{Open, Quiet, Found, Refused}
-use Rattle.search.specs.declared.standing.Standing.{Standing}
-use Rattle.search.specs.Refusals.{refusalOf}
+use Rattle.steps.specs.declared.Stop.{Stop}
+use Rattle.steps.specs.declared.Stop.the-variants.{Open, Quiet, Found, Refused}
+use Rattle.steps.specs.declared.Standing.{Standing}
+use Rattle.limits.specs.Refusals.{refusalOf}
 use Rattle.search.specs.Lasso.{Stacked, lassoIn, foundIn}
-use Rattle.search.specs.Standing.{stopped, standingIn, standingOn}
+use Rattle.steps.specs.Standing.{stopped, standingIn, standingOn}
 
 -- the room and the standing before the first move
 pub record Beginning : Type 0 where

@@ -1,8 +1,5 @@
--- The two runs over lent words, in the order of reading: the refusals, what a run leaves, what a move
--- brings, the lasso, where a run stands between two turns, and its two ends.
-pub mod Refusals
+-- The two runs over lent words, in the order of reading: what a run leaves, the lasso, the turns with the tally, and the two ends of a run.
 pub mod Outcomes
-pub mod Verdict
 pub mod Lasso
-pub mod Standing
+pub mod Turns
 pub mod Ends

@@ -11,7 +11,7 @@ use Rattle.moves.specs.Run.{Answer, cycle, none, undecided, Result, run}
 use Rattle.theory.specs.Turns.{runToEnd}
 use Rattle.search.specs.declared.Outcome.{Outcome}
 use Rattle.search.specs.declared.Outcome.the-variants.{Cycle, None, Undecided, NoWorkers, NoGraph, RoomShort, LassoShort, NoSuchWorker}
-use Rattle.search.specs.Refusals.{refusalOf, usual}
+use Rattle.limits.specs.Refusals.{refusalOf, usual}
 
 -- the answer, with the lengths of stem and loop, and how many turns were used; or 01's number of the refusal and its line
 pub data Told : Type 0 where

@@ -1,14 +1,14 @@
 // The two ends of a run: before the first move the refusals and the starting state, after the last one what the run tells.
 use crate::Outcome;
 use crate::lasso::show;
-use crate::refusals::refusal;
-use crate::refusals::refusal_to_end;
-use crate::refusals::room_size;
-use crate::standing::Standing;
-use crate::standing::Stop;
-use crate::standing::standing_in;
-use crate::standing::standing_on;
+use limits::refusal;
+use limits::refusal_to_end;
+use limits::room_size;
 use moves::Tally;
+use steps::Standing;
+use steps::Stop;
+use steps::standing_in;
+use steps::standing_on;
 use words::clear;
 ghost use mathlib.Core.Path.{_≡_};
 ghost use lib.ListN.{length};

@@ -1,16 +1,13 @@
 // The two runs of 01 over lent words: refusals 9 to 13, the moves by turns, and the lasso.
 mod ends;
 mod lasso;
-mod played;
-mod refusals;
-mod standing;
 mod turns;
 
 use ends::finish;
 use ends::prepare;
 use ends::prepare_to_end;
+use limits::usual;
 use moves::Tally;
-use refusals::usual;
 use turns::over_rounds;
 use turns::over_turns;
 use turns::reset;

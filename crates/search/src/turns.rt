@@ -1,13 +1,14 @@
 // The turns of a run, one after the other. The tally is lent, and raised in place after each move; what it is raised to comes from `moves`.
 use crate::ends::reset_of;
-use crate::standing::Standing;
-use crate::standing::move_in_round;
-use crate::standing::move_in_turns;
 use moves::Move;
 use moves::Tally;
+use steps::Standing;
+use steps::move_in_round;
+use steps::move_in_turns;
 ghost use mathlib.Core.Path.{_≡_};
 ghost use Rattle.moves.specs.Tally.{raised, Low};
-ghost use Rattle.search.specs.Standing.{Ready, Stepped, Begun, Ended, ReadyRound, SteppedRound, BegunRounds, EndedRounds};
+ghost use Rattle.steps.specs.Standing.{Ready, ReadyRound};
+ghost use Rattle.search.specs.Turns.{Stepped, Begun, Ended, SteppedRound, BegunRounds, EndedRounds};
 ghost use Rattle.search.specs.Ends.{resetOf};
 
 fn raise(tally: &mut Tally, made: Move)

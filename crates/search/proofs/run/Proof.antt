@@ -44,14 +44,14 @@ use denote.Exit.{yes}
 use Rattle.search.specs.declared.Outcome.{Outcome}
 use Rattle.search.proofs.Outcome as Outcome-m
 use Rattle.search.proofs.Outcome.Laws as Outcome-l
-use Rattle.search.specs.declared.standing.Standing.{Standing}
-use Rattle.search.proofs.standing.Standing as Standing-m
-use Rattle.search.proofs.standing.Standing.Laws as Standing-l
 use Rattle.moves.specs.declared.Tally.{Tally}
 use Rattle.moves.proofs.Tally as Tally-m
+use Rattle.steps.specs.declared.Standing.{Standing}
+use Rattle.steps.proofs.Standing as Standing-m
+use Rattle.steps.proofs.Standing.Laws as Standing-l
 use Rattle.search.specs.Outcomes.{lent, outcome}
 use Rattle.search.specs.Ends.{begun, begunIn, Finishing, resetOf, finishedLasso, finishedOutcome}
-use Rattle.search.specs.Standing.{Begun, Ended}
+use Rattle.search.specs.Turns.{Begun, Ended}
 use Rattle.search.proofs.Again as Again
 use Rattle.search.proofs.Runs as laws
 use Rattle.search.proofs.ends.prepare as ends-prepare-c

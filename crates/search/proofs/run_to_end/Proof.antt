@@ -44,21 +44,21 @@ use denote.Exit.{yes}
 use Rattle.search.specs.declared.Outcome.{Outcome}
 use Rattle.search.proofs.Outcome as Outcome-m
 use Rattle.search.proofs.Outcome.Laws as Outcome-l
-use Rattle.search.specs.declared.standing.Standing.{Standing}
-use Rattle.search.proofs.standing.Standing as Standing-m
-use Rattle.search.proofs.standing.Standing.Laws as Standing-l
 use Rattle.moves.specs.declared.Tally.{Tally}
 use Rattle.moves.proofs.Tally as Tally-m
+use Rattle.steps.specs.declared.Standing.{Standing}
+use Rattle.steps.proofs.Standing as Standing-m
+use Rattle.steps.proofs.Standing.Laws as Standing-l
 use Rattle.search.specs.Outcomes.{lent, outcomeToEnd, told, Settles}
-use Rattle.search.specs.Refusals.{usual}
+use Rattle.limits.specs.Refusals.{usual}
 use Rattle.search.specs.Ends.{begun, begunOn, Finishing, resetOf, finishedLasso, finishedOutcome}
-use Rattle.search.specs.Standing.{BegunRounds, EndedRounds}
+use Rattle.search.specs.Turns.{BegunRounds, EndedRounds}
 use Rattle.search.proofs.Again as Again
 use Rattle.search.proofs.Runs as laws
-use Rattle.search.proofs.refusals.usual as refusals-usual-c
-use Rattle.search.proofs.refusals.usual.Symbol as refusals-usual-c-def
-use Rattle.search.proofs.refusals.usual.Symbol.{name as #search·refusals·usual}
-use Rattle.search.proofs.refusals.usual.Met as refusals-usual-c-thm
+use Rattle.limits.proofs.usual as usual-c
+use Rattle.limits.proofs.usual.Symbol as usual-c-def
+use Rattle.limits.proofs.usual.Symbol.{name as #limits·usual}
+use Rattle.limits.proofs.usual.Met as usual-c-thm
 use Rattle.search.proofs.ends.prepare_to_end as ends-prepare-to-end-c
 use Rattle.search.proofs.ends.prepare_to_end.Symbol as ends-prepare-to-end-c-def
 use Rattle.search.proofs.ends.prepare_to_end.Symbol.{name as #search·ends·prepare-to-end}
@@ -84,8 +84,8 @@ abbrev stayed : Stays (f.ended .signature .params) (f.ended .kept)
 stayed = (stay-slice (0 ∷ []) tt (plain (λ _. u16)), (stay-slice (1 ∷ []) tt (plain (λ _. u16)), (stay-ref (2 ∷ []) tt (plain (λ _. Tally-m.the-row)), (stay-none-slice (3 ∷ []) tt (plain (λ _. u16)) yes, (stay-none-slice (4 ∷ []) tt (plain (λ _. u16)) yes, (stay-none-slice (5 ∷ []) tt (plain (λ _. u16)) yes, (stay-none (λ _. usize) yes, tt)))))))
 
 module _ {M : Type 1} (𝓤 : URA M) (H : Heap 𝓤) (A : Atoms 𝓤) (at-mem : Memory → SProp 𝓤) (run : Routine → Fun 𝓤) where
-  abbrev RefusalsUsual-K : Contract 𝓤
-  RefusalsUsual-K = tripleOf 𝓤 H A refusals-usual-c.signature (refusals-usual-c.spec 𝓤 H A at-mem run)
+  abbrev Usual-K : Contract 𝓤
+  Usual-K = tripleOf 𝓤 H A usual-c.signature (usual-c.spec 𝓤 H A at-mem run)
 
   abbrev EndsPrepareToEnd-K : Contract 𝓤
   EndsPrepareToEnd-K = tripleOf 𝓤 H A ends-prepare-to-end-c.signature (ends-prepare-to-end-c.spec 𝓤 H A at-mem run)
@@ -159,11 +159,11 @@ module _ {M : Type 1} (𝓤 : URA M) (H : Heap 𝓤) (A : Atoms 𝓤) (W : Given
       qed W (‵ (room-own room-κ room-γ (room-z) (length (room-z))) ∷ ‵ (flft room-κ room-q) ∷ ‵ (lasso-own lasso-κ lasso-γ (lasso-z) (length (lasso-z))) ∷ ‵ (flft lasso-κ lasso-q) ∷ ‵ (tally-own tally-κ tally-γ (tally-z)) ∷ ‵ (flft tally-κ tally-q) ∷ ‵ offsets-own ∷ ‵ (flft offsets-κ offsets-q) ∷ ‵ targets-own ∷ ‵ (flft targets-κ targets-q) ∷ ‵ flags-own ∷ ‵ (flft flags-κ flags-q) ∷ []) ∵ rewrite ! 0 (λ (m : ℕ). ‵ (room-own room-κ room-γ room-z m)) room-same refl $ rewrite ! 2 (λ (m : ℕ). ‵ (lasso-own lasso-κ lasso-γ lasso-z m)) lasso-same refl $ suffices ! _ (ends-at 𝓤 H A f.ended stayed (f.clauses 𝓤 H A at-mem run) W bound (EL.val Outcome-m.the-type Outcome-l.the-laws (r)) r (room-z, (lasso-z, (tally-z, (tt, (tt, (tt, (tt, tt))))))) (room-same, (lasso-same, (tt, (tt, (tt, (tt, (tt, tt)))))))) $ says ! e $
       nothing ! $ move ! (12 ∷ 0 ∷ []) $ join ! $ move ! (10 ∷ 0 ∷ []) $ join ! $ move ! (8 ∷ 0 ∷ []) $ join ! $ move ! (6 ∷ 0 ∷ []) $ join ! $ move ! (4 ∷ 0 ∷ []) $ join ! $ move ! (2 ∷ 0 ∷ []) $ join ! $ frame ! $ nothing ! $ owned ! usize (Is usize) (uint-makes 𝓤 H A W w64) (workers) _ (refl, workers-is) $ fjoin ! $ move ! (6 ∷ 0 ∷ []) $ fjoin ! $ move ! (5 ∷ 0 ∷ []) $ fjoin ! $ move ! (4 ∷ 0 ∷ []) $ fjoin ! $ move ! (3 ∷ 0 ∷ []) $ fjoin ! $ move ! (2 ∷ 0 ∷ []) $ fjoin ! $ move ! (1 ∷ 0 ∷ []) $ fjoin ! $ owned ! Outcome-m.the-row (Is Outcome-m.the-row) (EL.makes Outcome-m.the-type Outcome-l.the-plain 𝓤 H A) (r) _ (r-is) $ move ! (1 ∷ 0 ∷ []) $ done !
 
-  -- the call of search::refusals::usual
-  abbrev to-0 : RefusalsUsual-K 𝓤 H A at-mem run .Ghost
+  -- the call of limits::usual
+  abbrev to-0 : Usual-K 𝓤 H A at-mem run .Ghost
   to-0 = ((tt, tt, tt, (workers, tt), (vint w64 workers ∷ [], tt)), tt)
 
-  goes-0 : ent 𝓤 (⋆ 𝓤 H A (‵ ftrue ∷ [])) (RefusalsUsual-K 𝓤 H A at-mem run .pre (to-0))
+  goes-0 : ent 𝓤 (⋆ 𝓤 H A (‵ ftrue ∷ [])) (Usual-K 𝓤 H A at-mem run .pre (to-0))
   goes-0 = qed W (‵ ftrue ∷ []) ∵ drop ! $ nothing ! $ owned ! usize (Is usize) (uint-makes 𝓤 H A W w64) (workers) _ (refl, workers-is) $ fjoin ! $ nothing ! $ join ! $ frame ! $ done !
 
   -- the call of search::ends::prepare_to_end
@@ -194,7 +194,7 @@ module _ {M : Type 1} (𝓤 : URA M) (H : Heap 𝓤) (A : Atoms 𝓤) (W : Given
   goes-4 : (room-ν : ℕ) (room-δ : GName) (room-z : List ℕ) (lasso-ν : ℕ) (lasso-δ : GName) (lasso-z : List ℕ) (y3 : Standing) (y3-is : Is Standing-m.the-row y3 (LL.vals Standing-m.the-type Standing-l.the-laws (y3))) → Finishing (length (flags .now)) (y3) (room-z) (lasso-z) → ent 𝓤 (⋆ 𝓤 H A ((((((‵ (flft (room-ν ∷ []) fullShare) ⊛ ‵ (flft (lasso-ν ∷ []) fullShare)) ⊛ ‵ (flft (flags-κ) flags-q)) ⊛ ‵ (room-shown (room-ν ∷ []) room-δ room-z)) ⊛ ‵ (lasso-own (lasso-ν ∷ []) lasso-δ (lasso-z) (length (lasso-z)))) ⊛ ‵ (flags-own)) ∷ [])) (EndsFinish-K 𝓤 H A at-mem run .pre (to-4 room-ν room-δ room-z lasso-ν lasso-δ lasso-z y3 y3-is))
   goes-4 room-ν room-δ room-z lasso-ν lasso-δ lasso-z y3 y3-is asked = qed W ((((((‵ (flft (room-ν ∷ []) fullShare) ⊛ ‵ (flft (lasso-ν ∷ []) fullShare)) ⊛ ‵ (flft (flags-κ) flags-q)) ⊛ ‵ (room-shown (room-ν ∷ []) room-δ room-z)) ⊛ ‵ (lasso-own (lasso-ν ∷ []) lasso-δ (lasso-z) (length (lasso-z)))) ⊛ ‵ (flags-own)) ∷ []) ∵ says ! asked $ split ! $ split ! $ split ! $ split ! $ split ! $ nothing ! $ move ! (3 ∷ 0 ∷ []) $ join ! $ move ! (2 ∷ 0 ∷ []) $ join ! $ move ! (1 ∷ 0 ∷ []) $ join ! $ frame ! $ nothing ! $ owned ! Standing-m.the-row (Is Standing-m.the-row) (LL.makes Standing-m.the-type Standing-l.the-plain 𝓤 H A) (y3) _ (y3-is) $ fjoin ! $ move ! (3 ∷ 0 ∷ []) $ fjoin ! $ move ! (2 ∷ 0 ∷ []) $ fjoin ! $ move ! (1 ∷ 0 ∷ []) $ fjoin ! $ done !
 
-  module _ (𝓣 : Tables 𝓤 H) (known-search·refusals·usual : Triple 𝓤 (𝓣 .C #search·refusals·usual) (RefusalsUsual-K 𝓤 H A at-mem run)) (known-search·ends·prepare-to-end : Triple 𝓤 (𝓣 .C #search·ends·prepare-to-end) (EndsPrepareToEnd-K 𝓤 H A at-mem run)) (known-search·turns·reset : Triple 𝓤 (𝓣 .C #search·turns·reset) (TurnsReset-K 𝓤 H A at-mem run)) (known-search·turns·over-rounds : Triple 𝓤 (𝓣 .C #search·turns·over-rounds) (TurnsOverRounds-K 𝓤 H A at-mem run)) (known-search·ends·finish : Triple 𝓤 (𝓣 .C #search·ends·finish) (EndsFinish-K 𝓤 H A at-mem run)) (room-g : Room u16 (length room-xs)) (lasso-g : Room u16 (length lasso-xs)) (offsets-g : Room u16 (length (offsets .now))) (targets-g : Room u16 (length (targets .now))) (flags-g : Room u16 (length (flags .now))) where
+  module _ (𝓣 : Tables 𝓤 H) (known-limits·usual : Triple 𝓤 (𝓣 .C #limits·usual) (Usual-K 𝓤 H A at-mem run)) (known-search·ends·prepare-to-end : Triple 𝓤 (𝓣 .C #search·ends·prepare-to-end) (EndsPrepareToEnd-K 𝓤 H A at-mem run)) (known-search·turns·reset : Triple 𝓤 (𝓣 .C #search·turns·reset) (TurnsReset-K 𝓤 H A at-mem run)) (known-search·turns·over-rounds : Triple 𝓤 (𝓣 .C #search·turns·over-rounds) (TurnsOverRounds-K 𝓤 H A at-mem run)) (known-search·ends·finish : Triple 𝓤 (𝓣 .C #search·ends·finish) (EndsFinish-K 𝓤 H A at-mem run)) (room-g : Room u16 (length room-xs)) (lasso-g : Room u16 (length lasso-xs)) (offsets-g : Room u16 (length (offsets .now))) (targets-g : Room u16 (length (targets .now))) (flags-g : Room u16 (length (flags .now))) where
     abbrev C : Calls 𝓤 H
     C = 𝓣 .C
 
@@ -206,9 +206,9 @@ module _ {M : Type 1} (𝓤 : URA M) (H : Heap 𝓤) (A : Atoms 𝓤) (W : Given
         qed W ((‵ (flft room-κ room-q) ⊛ ‵ (flft lasso-κ lasso-q) ⊛ ‵ (flft tally-κ tally-q) ⊛ ‵ (flft offsets-κ offsets-q) ⊛ ‵ (flft targets-κ targets-q) ⊛ ‵ (flft flags-κ flags-q) ⊛ ‵ ftrue) ∷ ‵ (owns (MutSlice (named 0) room-κ u16 ∷ MutSlice (named 1) lasso-κ u16 ∷ MutRef (named 2) tally-κ Tally-m.the-row ∷ ShrSlice (named 3) offsets-κ u16 ∷ ShrSlice (named 4) targets-κ u16 ∷ ShrSlice (named 5) flags-κ u16 ∷ usize ∷ []) (room-at room-γ (room-xs), (lasso-at lasso-γ (lasso-xs), (tally-at tally-γ (tally-xs), (offsets, (targets, (flags, (workers, tt))))))) (room-s (length (room-xs)) ∷ [], (lasso-s (length (lasso-xs)) ∷ [], (vptr tally-b tally-o ∷ [], (offsets-s ∷ [], (targets-s ∷ [], (flags-s ∷ [], (vint w64 workers ∷ [], tt)))))))) ∷ []) ∵ enter ! C Λ code.function (room-s (length (room-xs)) ∷ lasso-s (length (lasso-xs)) ∷ vptr tally-b tally-o ∷ offsets-s ∷ targets-s ∷ flags-s ∷ vint w64 workers ∷ []) _ $
         alloc1 ! (λ l0. alloc1 ! (λ l1. alloc1 ! (λ l2. alloc1 ! (λ l3. alloc1 ! (λ l4. alloc1 ! (λ l5. alloc1 ! (λ l6. alloc1 ! (λ l7. alloc1 ! (λ l8. alloc1 ! (λ l9. alloc1 ! (λ l10. alloc1 ! (λ l11. alloc1 ! (λ l12. alloc1 ! (λ l13. alloc1 ! (λ l14. alloc1 ! (λ l15. alloc1 ! (λ l16. alloc1 ! (λ l17. alloc1 ! (λ l18. alloc1 ! (λ l19. alloc1 ! (λ l20. alloc1 ! (λ l21. alloc1 ! (λ l22. alloc0 ! $ params1 ! $ pass1 ! (init ! 42 refl (tt, (tt, (record { fits = room-g .0 }, tt)))) $ pass1 ! (init ! 40 refl (tt, (tt, (record { fits = lasso-g .0 }, tt)))) $ pass1 ! (init ! 38 refl (tt, tt)) $ pass1 ! (init ! 36 refl (tt, (tt, (record { fits = offsets-g .0 }, tt)))) $ pass1 ! (init ! 34 refl (tt, (tt, (record { fits = targets-g .0 }, tt)))) $ pass1 ! (init ! 32 refl (tt, (tt, (record { fits = flags-g .0 }, tt)))) $ pass1 ! (init ! 30 refl (tt, record { fits = workers-is })) $ pass0 ! $
         move ! (46 ∷ []) $ split ! $ move ! (1 ∷ []) $ split ! $ move ! (1 ∷ []) $ split ! $ move ! (1 ∷ []) $ split ! $ move ! (1 ∷ []) $ split ! $ move ! (1 ∷ []) $ split ! $ move ! (53 ∷ []) $ fsplit ! $ move ! (1 ∷ []) $ fsplit ! $ move ! (1 ∷ []) $ fsplit ! $ move ! (1 ∷ []) $ fsplit ! $ move ! (1 ∷ []) $ fsplit ! $ move ! (1 ∷ []) $ fsplit ! $
-        -- refusals::usual
-        nothing ! $ use1 W (raw (RefusalsUsual-K 𝓤 H A at-mem run .pre (to-0))) (goes-0) $
-        calls-at ! (fmOf 𝓤 H (W .laws) 𝓣) (RefusalsUsual-K 𝓤 H A at-mem run) known-search·refusals·usual (to-0) (and-then ! (load ! (from ! (stop !)) (look ! 45 refl)) (no-more !)) (λ v0. use1 W (later (some (λ (r : ℕ). ((‵ ftrue) ⊛ ‵ (usize .own r (v0 ∷ []))) ⊛ raw (ensured 𝓤 H A refusals-usual-c.ended (refusals-usual-c.clauses 𝓤 H A at-mem run) tt ((workers, tt)) tt r)))) (id⊢ 𝓤 _) $ await ! tt $ pick ! (λ r0. split ! $ move ! (1 ∷ []) $ use1 W (some (λ (ws : (Unit {0} × Unit {0})). ‵ (lasts refusals-usual-c.ended tt ((workers, tt)) ws) ⊛ raw (fact 𝓤 ((r0) ≡ usual (workers))))) (id⊢ 𝓤 _) $ pick ! (λ ws0. split ! $ move ! (1 ∷ []) $ heard ! ((r0) ≡ usual (workers)) (λ e0.
+        -- usual
+        nothing ! $ use1 W (raw (Usual-K 𝓤 H A at-mem run .pre (to-0))) (goes-0) $
+        calls-at ! (fmOf 𝓤 H (W .laws) 𝓣) (Usual-K 𝓤 H A at-mem run) known-limits·usual (to-0) (and-then ! (load ! (from ! (stop !)) (look ! 45 refl)) (no-more !)) (λ v0. use1 W (later (some (λ (r : ℕ). ((‵ ftrue) ⊛ ‵ (usize .own r (v0 ∷ []))) ⊛ raw (ensured 𝓤 H A usual-c.ended (usual-c.clauses 𝓤 H A at-mem run) tt ((workers, tt)) tt r)))) (id⊢ 𝓤 _) $ await ! tt $ pick ! (λ r0. split ! $ move ! (1 ∷ []) $ use1 W (some (λ (ws : (Unit {0} × Unit {0})). ‵ (lasts usual-c.ended tt ((workers, tt)) ws) ⊛ raw (fact 𝓤 ((r0) ≡ usual (workers))))) (id⊢ 𝓤 _) $ pick ! (λ ws0. split ! $ move ! (1 ∷ []) $ heard ! ((r0) ≡ usual (workers)) (λ e0.
         move ! (1 ∷ []) $ split ! $ move ! (1 ∷ []) $ peeks ! usize (Is usize) (shows 𝓤 H A usize) r0 (v0 ∷ []) (λ is0.
         land ! (from ! (stop !)) (init ! 45 refl (uint-lawful 𝓤 H A W w64 .typed r0 _ is0 .0)) $ rewrite ! 45 (λ (u : Val). ‵ (fat fullShare (tyInt w64) l8 0 u)) (ap only (is0 .0)) refl $ assigns ! (addr ! (from ! (fld ! refl (hop ! (look-in ! 59 (sub ! 0 refl (whole !))) (stop !))))) (from ! (stop !)) (init ! 39 refl (tt, tt)) $ assigns ! (agg ! (and-then ! (load ! (from ! (stop !)) (look ! 39 refl)) (and-then ! (load ! (from ! (fld ! refl (stop !))) (look-in ! 59 (sub ! 1 refl (whole !)))) (no-more !)))) (from ! (stop !)) (init ! 37 refl (tt, (tt, (record { fits = room-g .0 }, tt)))) $ assigns ! (of-opd ! (load ! (from ! (fld ! refl (stop !))) (look-in ! 57 (sub ! 1 refl (whole !))))) (from ! (stop !)) (init ! 35 refl (tt, record { fits = lasso-g .0 })) $
         -- ends::prepare_to_end
@@ -246,15 +246,15 @@ module _ {M : Type 1} (𝓤 : URA M) (H : Heap 𝓤) (A : Atoms 𝓤) (W : Given
         returns ! (look ! 73 refl) $ forget ! 73 refl $ forget ! 71 refl $ forget ! 69 refl $ forget ! 67 refl $ forget ! 65 refl $ forget ! 63 refl $ forget ! 61 refl $ forget ! 59 refl $ forget ! 57 refl $ forget ! 55 refl $ forget ! 53 refl $ forget ! 51 refl $ forget ! 49 refl $ forget ! 47 refl $ forget ! 45 refl $ forget ! 43 refl $ forget ! 41 refl $ forget ! 39 refl $ forget ! 37 refl $ forget ! 35 refl $ forget ! 33 refl $ forget ! 31 refl $ forget ! 29 refl $ move ! (73 ∷ 74 ∷ []) $ free1 ! $ move ! (71 ∷ 72 ∷ []) $ free1 ! $ move ! (69 ∷ 70 ∷ []) $ free1 ! $ move ! (67 ∷ 68 ∷ []) $ free1 ! $ move ! (65 ∷ 66 ∷ []) $ free1 ! $ move ! (63 ∷ 64 ∷ []) $ free1 ! $ move ! (61 ∷ 62 ∷ []) $ free1 ! $ move ! (59 ∷ 60 ∷ []) $ free1 ! $ move ! (57 ∷ 58 ∷ []) $ free1 ! $ move ! (55 ∷ 56 ∷ []) $ free1 ! $ move ! (53 ∷ 54 ∷ []) $ free1 ! $ move ! (51 ∷ 52 ∷ []) $ free1 ! $ move ! (49 ∷ 50 ∷ []) $ free1 ! $ move ! (47 ∷ 48 ∷ []) $ free1 ! $ move ! (45 ∷ 46 ∷ []) $ free1 ! $ move ! (43 ∷ 44 ∷ []) $ free1 ! $ move ! (41 ∷ 42 ∷ []) $ free1 ! $ move ! (39 ∷ 40 ∷ []) $ free1 ! $ move ! (37 ∷ 38 ∷ []) $ free1 ! $ move ! (35 ∷ 36 ∷ []) $ free1 ! $ move ! (33 ∷ 34 ∷ []) $ free1 ! $ move ! (31 ∷ 32 ∷ []) $ free1 ! $ move ! (29 ∷ 30 ∷ []) $ free1 ! $ free0 ! $ keep ! (2 ∷ 3 ∷ 0 ∷ 1 ∷ 10 ∷ 11 ∷ 18 ∷ 14 ∷ 17 ∷ 13 ∷ 9 ∷ 4 ∷ []) $ by ! (exits (ws3 .0) (ws4 .1 .0) (ws3 .1 .0) (r4) (Again.retold Outcome-m.the-row (EL.vals Outcome-m.the-type Outcome-l.the-laws) (EL.tells Outcome-m.the-type Outcome-l.the-laws) r4 (v4 ∷ []) is4) (room-l3 ∙ room-l1) (lasso-l4) (laws.end-left (offsets .now) (targets .now) (flags .now) (workers) room-xs lasso-xs tally-xs r0 e0 r1 (ws1 .0) (ws2 .0) e1 e2 r3 (ws3 .0) (ws3 .1 .0) e3 r4 (ws4 .1 .0) e4)))))))))))))))))))))))))))))))))))))))))))))))))))))))))))))))))
 
 module _ {M : Type 1} (𝓤 : URA M) (H : Heap 𝓤) (A : Atoms 𝓤) (W : Given 𝓤 H A) (at-mem : Memory → SProp 𝓤) (run : Routine → Fun 𝓤) where
-  walks : (𝓣 : Tables 𝓤 H) → Triple 𝓤 (𝓣 .C #search·refusals·usual) (RefusalsUsual-K 𝓤 H A at-mem run) → Triple 𝓤 (𝓣 .C #search·ends·prepare-to-end) (EndsPrepareToEnd-K 𝓤 H A at-mem run) → Triple 𝓤 (𝓣 .C #search·turns·reset) (TurnsReset-K 𝓤 H A at-mem run) → Triple 𝓤 (𝓣 .C #search·turns·over-rounds) (TurnsOverRounds-K 𝓤 H A at-mem run) → Triple 𝓤 (𝓣 .C #search·ends·finish) (EndsFinish-K 𝓤 H A at-mem run) → Walks 𝓤 H A f.ended stayed (WpFn 𝓤 H (𝓣 .C) (𝓣 .Λ) code.function) (f.clauses 𝓤 H A at-mem run)
-  walks 𝓣 known-search·refusals·usual known-search·ends·prepare-to-end known-search·turns·reset known-search·turns·over-rounds known-search·ends·finish = walked 𝓤 H A f.ended stayed (f.clauses 𝓤 H A at-mem run) (WpFn 𝓤 H (𝓣 .C) (𝓣 .Λ) code.function) (λ κs. (slice-vals, (slice-vals, (ptr-vals, (slice-vals, (slice-vals, (slice-vals, (uint-vals w64, tt)))))))) (λ κs. (mut-slice-tells (named 0) (κs .0) u16, (mut-slice-tells (named 1) (κs .1 .0) u16, (mut-tells (named 2) (κs .1 .1 .0) Tally-m.the-row, (shr-slice-tells (named 3) (κs .1 .1 .1 .0) u16, (shr-slice-tells (named 4) (κs .1 .1 .1 .1 .0) u16, (shr-slice-tells (named 5) (κs .1 .1 .1 .1 .1 .0) u16, (uint-tells w64, tt))))))))
-      (λ κs qs bounds a _ are. via 𝓤 _ (fst∗ 𝓤 _ (emp 𝓤)) (walk 𝓤 H A W at-mem run (κs .0) (qs .0) (κs .1 .0) (qs .1 .0) (κs .1 .1 .0) (qs .1 .1 .0) (κs .1 .1 .1 .0) (qs .1 .1 .1 .0) (κs .1 .1 .1 .1 .0) (qs .1 .1 .1 .1 .0) (κs .1 .1 .1 .1 .1 .0) (qs .1 .1 .1 .1 .1 .0) (a .0 .ptr .0) (a .0 .ptr .1) (a .0 .name) (a .0 .now) (a .1 .0 .ptr .0) (a .1 .0 .ptr .1) (a .1 .0 .name) (a .1 .0 .now) (a .1 .1 .0 .ptr .0) (a .1 .1 .0 .ptr .1) (a .1 .1 .0 .name) (a .1 .1 .0 .now) (a .1 .1 .1 .0) (a .1 .1 .1 .1 .0) (a .1 .1 .1 .1 .1 .0) (a .1 .1 .1 .1 .1 .1 .0) (are .1 .1 .1 .1 .1 .1 .0 .1) 𝓣 known-search·refusals·usual known-search·ends·prepare-to-end known-search·turns·reset known-search·turns·over-rounds known-search·ends·finish (are .0 .0 .1) (are .1 .0 .0 .1) (are .1 .1 .1 .0 .0 .1) (are .1 .1 .1 .1 .0 .0 .1) (are .1 .1 .1 .1 .1 .0 .0 .1)))
+  walks : (𝓣 : Tables 𝓤 H) → Triple 𝓤 (𝓣 .C #limits·usual) (Usual-K 𝓤 H A at-mem run) → Triple 𝓤 (𝓣 .C #search·ends·prepare-to-end) (EndsPrepareToEnd-K 𝓤 H A at-mem run) → Triple 𝓤 (𝓣 .C #search·turns·reset) (TurnsReset-K 𝓤 H A at-mem run) → Triple 𝓤 (𝓣 .C #search·turns·over-rounds) (TurnsOverRounds-K 𝓤 H A at-mem run) → Triple 𝓤 (𝓣 .C #search·ends·finish) (EndsFinish-K 𝓤 H A at-mem run) → Walks 𝓤 H A f.ended stayed (WpFn 𝓤 H (𝓣 .C) (𝓣 .Λ) code.function) (f.clauses 𝓤 H A at-mem run)
+  walks 𝓣 known-limits·usual known-search·ends·prepare-to-end known-search·turns·reset known-search·turns·over-rounds known-search·ends·finish = walked 𝓤 H A f.ended stayed (f.clauses 𝓤 H A at-mem run) (WpFn 𝓤 H (𝓣 .C) (𝓣 .Λ) code.function) (λ κs. (slice-vals, (slice-vals, (ptr-vals, (slice-vals, (slice-vals, (slice-vals, (uint-vals w64, tt)))))))) (λ κs. (mut-slice-tells (named 0) (κs .0) u16, (mut-slice-tells (named 1) (κs .1 .0) u16, (mut-tells (named 2) (κs .1 .1 .0) Tally-m.the-row, (shr-slice-tells (named 3) (κs .1 .1 .1 .0) u16, (shr-slice-tells (named 4) (κs .1 .1 .1 .1 .0) u16, (shr-slice-tells (named 5) (κs .1 .1 .1 .1 .1 .0) u16, (uint-tells w64, tt))))))))
+      (λ κs qs bounds a _ are. via 𝓤 _ (fst∗ 𝓤 _ (emp 𝓤)) (walk 𝓤 H A W at-mem run (κs .0) (qs .0) (κs .1 .0) (qs .1 .0) (κs .1 .1 .0) (qs .1 .1 .0) (κs .1 .1 .1 .0) (qs .1 .1 .1 .0) (κs .1 .1 .1 .1 .0) (qs .1 .1 .1 .1 .0) (κs .1 .1 .1 .1 .1 .0) (qs .1 .1 .1 .1 .1 .0) (a .0 .ptr .0) (a .0 .ptr .1) (a .0 .name) (a .0 .now) (a .1 .0 .ptr .0) (a .1 .0 .ptr .1) (a .1 .0 .name) (a .1 .0 .now) (a .1 .1 .0 .ptr .0) (a .1 .1 .0 .ptr .1) (a .1 .1 .0 .name) (a .1 .1 .0 .now) (a .1 .1 .1 .0) (a .1 .1 .1 .1 .0) (a .1 .1 .1 .1 .1 .0) (a .1 .1 .1 .1 .1 .1 .0) (are .1 .1 .1 .1 .1 .1 .0 .1) 𝓣 known-limits·usual known-search·ends·prepare-to-end known-search·turns·reset known-search·turns·over-rounds known-search·ends·finish (are .0 .0 .1) (are .1 .0 .0 .1) (are .1 .1 .1 .0 .0 .1) (are .1 .1 .1 .1 .0 .0 .1) (are .1 .1 .1 .1 .1 .0 .0 .1)))
 
   all-go : AllGo 𝓤 H A W 6 (f.signature .params) (f.ended .kept) stayed
   all-go = (goes-slice 𝓤 H A W 6 0 tt (plain (λ _. u16)), (goes-slice 𝓤 H A W 6 1 tt (plain (λ _. u16)), (goes-ref 𝓤 H A W 6 2 tt (plain (λ _. Tally-m.the-row)), (goes-none-slice 𝓤 H A W 6 (3 ∷ []) tt (plain (λ _. u16)) yes, (goes-none-slice 𝓤 H A W 6 (4 ∷ []) tt (plain (λ _. u16)) yes, (goes-none-slice 𝓤 H A W 6 (5 ∷ []) tt (plain (λ _. u16)) yes, (goes-none 𝓤 H A W 6 (λ _. usize) yes (λ κs x f. refl), tt)))))))
 
-meets : {M : Type 1} (𝓤 : URA M) (H : Heap 𝓤) (A : Atoms 𝓤) → Given 𝓤 H A → (at-mem : Memory → SProp 𝓤) (run : Routine → Fun 𝓤) (𝓣 : Tables 𝓤 H) → Triple 𝓤 (𝓣 .C #search·refusals·usual) (RefusalsUsual-K 𝓤 H A at-mem run) → Triple 𝓤 (𝓣 .C #search·ends·prepare-to-end) (EndsPrepareToEnd-K 𝓤 H A at-mem run) → Triple 𝓤 (𝓣 .C #search·turns·reset) (TurnsReset-K 𝓤 H A at-mem run) → Triple 𝓤 (𝓣 .C #search·turns·over-rounds) (TurnsOverRounds-K 𝓤 H A at-mem run) → Triple 𝓤 (𝓣 .C #search·ends·finish) (EndsFinish-K 𝓤 H A at-mem run) → Meets 𝓤 H A f.signature (WpFn 𝓤 H (𝓣 .C) (𝓣 .Λ) code.function) (f.spec 𝓤 H A at-mem run)
-meets 𝓤 H A W at-mem run 𝓣 known-search·refusals·usual known-search·ends·prepare-to-end known-search·turns·reset known-search·turns·over-rounds known-search·ends·finish = walk-meets 𝓤 H A f.ended stayed W (all-go 𝓤 H A W at-mem run) (f.clauses 𝓤 H A at-mem run) (WpFn 𝓤 H (𝓣 .C) (𝓣 .Λ) code.function) (WpFn-mono 𝓤 H (W .laws) 𝓣 code.function) (walks 𝓤 H A W at-mem run 𝓣 known-search·refusals·usual known-search·ends·prepare-to-end known-search·turns·reset known-search·turns·over-rounds known-search·ends·finish)
+meets : {M : Type 1} (𝓤 : URA M) (H : Heap 𝓤) (A : Atoms 𝓤) → Given 𝓤 H A → (at-mem : Memory → SProp 𝓤) (run : Routine → Fun 𝓤) (𝓣 : Tables 𝓤 H) → Triple 𝓤 (𝓣 .C #limits·usual) (Usual-K 𝓤 H A at-mem run) → Triple 𝓤 (𝓣 .C #search·ends·prepare-to-end) (EndsPrepareToEnd-K 𝓤 H A at-mem run) → Triple 𝓤 (𝓣 .C #search·turns·reset) (TurnsReset-K 𝓤 H A at-mem run) → Triple 𝓤 (𝓣 .C #search·turns·over-rounds) (TurnsOverRounds-K 𝓤 H A at-mem run) → Triple 𝓤 (𝓣 .C #search·ends·finish) (EndsFinish-K 𝓤 H A at-mem run) → Meets 𝓤 H A f.signature (WpFn 𝓤 H (𝓣 .C) (𝓣 .Λ) code.function) (f.spec 𝓤 H A at-mem run)
+meets 𝓤 H A W at-mem run 𝓣 known-limits·usual known-search·ends·prepare-to-end known-search·turns·reset known-search·turns·over-rounds known-search·ends·finish = walk-meets 𝓤 H A f.ended stayed W (all-go 𝓤 H A W at-mem run) (f.clauses 𝓤 H A at-mem run) (WpFn 𝓤 H (𝓣 .C) (𝓣 .Λ) code.function) (WpFn-mono 𝓤 H (W .laws) 𝓣 code.function) (walks 𝓤 H A W at-mem run 𝓣 known-limits·usual known-search·ends·prepare-to-end known-search·turns·reset known-search·turns·over-rounds known-search·ends·finish)
 
 pub run-to-end-spec : {M : Type 1} → stated.statement M
 unfolding code.routine tablesOf
@@ -262,7 +262,7 @@ run-to-end-spec 𝓤 H 𝓜 𝓖 𝓡 =
     entered 𝓤 H (tripleOf 𝓤 H (𝓖 .A) f.signature (f.spec 𝓤 H (𝓖 .A) (𝓜 .mem) (𝓡 .run)))
     (tables 𝓤 H 𝓜 𝓡 code.env .C) (tables 𝓤 H 𝓜 𝓡 code.env .Λ) #search·run-to-end code.function (code.unfolded 𝓤 H 𝓜 𝓡)
     (meets 𝓤 H (𝓖 .A) (givenOf 𝓤 H 𝓜 𝓖) (𝓜 .mem) (𝓡 .run) (tablesOf 𝓤 H 𝓜 (tables 𝓤 H 𝓜 𝓡 code.env))
-    (cited 𝓤 H (RefusalsUsual-K 𝓤 H (𝓖 .A) (𝓜 .mem) (𝓡 .run)) 𝓜 𝓡 code.env #search·refusals·usual refusals-usual-c-def.routine code.calls-search·refusals·usual (refusals-usual-c-thm.met 𝓤 H 𝓜 𝓖 𝓡))
+    (cited 𝓤 H (Usual-K 𝓤 H (𝓖 .A) (𝓜 .mem) (𝓡 .run)) 𝓜 𝓡 code.env #limits·usual usual-c-def.routine code.calls-limits·usual (usual-c-thm.met 𝓤 H 𝓜 𝓖 𝓡))
     (cited 𝓤 H (EndsPrepareToEnd-K 𝓤 H (𝓖 .A) (𝓜 .mem) (𝓡 .run)) 𝓜 𝓡 code.env #search·ends·prepare-to-end ends-prepare-to-end-c-def.routine code.calls-search·ends·prepare-to-end (ends-prepare-to-end-c-thm.met 𝓤 H 𝓜 𝓖 𝓡))
     (cited 𝓤 H (TurnsReset-K 𝓤 H (𝓖 .A) (𝓜 .mem) (𝓡 .run)) 𝓜 𝓡 code.env #search·turns·reset turns-reset-c-def.routine code.calls-search·turns·reset (turns-reset-c-thm.met 𝓤 H 𝓜 𝓖 𝓡))
     (cited 𝓤 H (TurnsOverRounds-K 𝓤 H (𝓖 .A) (𝓜 .mem) (𝓡 .run)) 𝓜 𝓡 code.env #search·turns·over-rounds turns-over-rounds-c-def.routine code.calls-search·turns·over-rounds (turns-over-rounds-c-thm.met 𝓤 H 𝓜 𝓖 𝓡))

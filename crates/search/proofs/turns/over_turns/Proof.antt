@@ -41,13 +41,14 @@ use denote.Triple.Table.{entered, cited}
 use denote.Triple.Clauses.{ensured, lasts}
 use denote.Triple.Walked.{says, needs, Stays, stay-none, goes-none, stay-ref, stay-slice, stay-none-slice, walkOf, AllGo, goes-ref, goes-slice, goes-none-slice, Walks, ends-at, walked, walk-meets}
 use denote.Exit.{yes}
-use Rattle.search.specs.declared.standing.Standing.{Standing}
-use Rattle.search.proofs.standing.Standing as Standing-m
-use Rattle.search.proofs.standing.Standing.Laws as Standing-l
 use Rattle.moves.specs.declared.Tally.{Tally}
 use Rattle.moves.proofs.Tally as Tally-m
+use Rattle.steps.specs.declared.Standing.{Standing}
+use Rattle.steps.proofs.Standing as Standing-m
+use Rattle.steps.proofs.Standing.Laws as Standing-l
 use Rattle.moves.specs.Tally.{Low}
-use Rattle.search.specs.Standing.{Ready, Stepped, Begun, Ended}
+use Rattle.steps.specs.Standing.{Ready}
+use Rattle.search.specs.Turns.{Stepped, Begun, Ended}
 use Rattle.search.proofs.Again as Again
 use Rattle.search.proofs.Looped as laws
 use Rattle.search.proofs.turns.step_in_turns as turns-step-in-turns-c
@@ -61,7 +62,7 @@ use Rattle.search.proofs.turns.over_turns.Code as code
 use Rattle.search.proofs.turns.over_turns.Code.Mir as code-mir
 
 abbrev Standing-ty : Ty
-Standing-ty = tyStruct (115 ∷ 101 ∷ 97 ∷ 114 ∷ 99 ∷ 104 ∷ 58 ∷ 58 ∷ 115 ∷ 116 ∷ 97 ∷ 110 ∷ 100 ∷ 105 ∷ 110 ∷ 103 ∷ 58 ∷ 58 ∷ 83 ∷ 116 ∷ 97 ∷ 110 ∷ 100 ∷ 105 ∷ 110 ∷ 103 ∷ []) (tcons tyBool (tcons (tyInt w64) (tcons (tyInt w64) (tcons (tyEnum (115 ∷ 101 ∷ 97 ∷ 114 ∷ 99 ∷ 104 ∷ 58 ∷ 58 ∷ 115 ∷ 116 ∷ 97 ∷ 110 ∷ 100 ∷ 105 ∷ 110 ∷ 103 ∷ 58 ∷ 58 ∷ 83 ∷ 116 ∷ 111 ∷ 112 ∷ []) (ttcons tnil (ttcons tnil (ttcons (tcons (tyInt w16) (tcons (tyInt w16) tnil)) (ttcons (tcons (tyInt w16) tnil) ttnil))))) tnil))))
+Standing-ty = tyStruct (115 ∷ 116 ∷ 101 ∷ 112 ∷ 115 ∷ 58 ∷ 58 ∷ 83 ∷ 116 ∷ 97 ∷ 110 ∷ 100 ∷ 105 ∷ 110 ∷ 103 ∷ []) (tcons tyBool (tcons (tyInt w64) (tcons (tyInt w64) (tcons (tyEnum (115 ∷ 116 ∷ 101 ∷ 112 ∷ 115 ∷ 58 ∷ 58 ∷ 83 ∷ 116 ∷ 111 ∷ 112 ∷ []) (ttcons tnil (ttcons tnil (ttcons (tcons (tyInt w16) (tcons (tyInt w16) tnil)) (ttcons (tcons (tyInt w16) tnil) ttnil))))) tnil))))
 
 abbrev stayed : Stays (f.ended .signature .params) (f.ended .kept)
 stayed = (stay-slice (0 ∷ []) tt (plain (λ _. u16)), (stay-ref (1 ∷ []) tt (plain (λ _. Tally-m.the-row)), (stay-none-slice (2 ∷ []) tt (plain (λ _. u8)) yes, (stay-none-slice (3 ∷ []) tt (plain (λ _. u16)) yes, (stay-none-slice (4 ∷ []) tt (plain (λ _. u16)) yes, (stay-none-slice (5 ∷ []) tt (plain (λ _. u16)) yes, (stay-none (λ _. usize) yes, (stay-none (λ _. Standing-m.the-row) yes, tt))))))))

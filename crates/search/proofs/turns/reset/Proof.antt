@@ -33,12 +33,12 @@ use denote.Triple.Table.{entered, cited}
 use denote.Triple.Clauses.{ensured, lasts}
 use denote.Triple.Walked.{says, Stays, stay-none, goes-none, stay-ref, walkOf, AllGo, goes-ref, Walks, ends-at, walked, walk-meets}
 use denote.Exit.{yes}
-use Rattle.search.specs.declared.standing.Standing.{Standing}
-use Rattle.search.proofs.standing.Standing as Standing-m
-use Rattle.search.proofs.standing.Standing.Laws as Standing-l
 use Rattle.moves.specs.declared.Tally.{Tally}
 use Rattle.moves.proofs.Tally as Tally-m
 use Rattle.moves.proofs.Tally.Laws as Tally-l
+use Rattle.steps.specs.declared.Standing.{Standing}
+use Rattle.steps.proofs.Standing as Standing-m
+use Rattle.steps.proofs.Standing.Laws as Standing-l
 use Rattle.search.specs.Ends.{resetOf}
 use Rattle.search.proofs.Again as Again
 use Rattle.search.proofs.ends.reset_of as ends-reset-of-c

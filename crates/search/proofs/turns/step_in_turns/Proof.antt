@@ -41,26 +41,27 @@ use denote.Triple.Table.{entered, cited}
 use denote.Triple.Clauses.{ensured, lasts}
 use denote.Triple.Walked.{says, needs, Stays, stay-none, goes-none, stay-ref, stay-slice, stay-none-slice, walkOf, AllGo, goes-ref, goes-slice, goes-none-slice, Walks, ends-at, walked, walk-meets}
 use denote.Exit.{yes}
-use Rattle.search.specs.declared.standing.Standing.{Standing}
-use Rattle.search.proofs.standing.Standing as Standing-m
-use Rattle.search.proofs.standing.Standing.Laws as Standing-l
-use Rattle.search.specs.declared.standing.Moved.{Moved}
-use Rattle.search.proofs.standing.Moved as Moved-m
-use Rattle.search.proofs.standing.Moved.Laws as Moved-l
 use Rattle.moves.specs.declared.Move.{Move}
 use Rattle.moves.proofs.Move as Move-m
 use Rattle.moves.proofs.Move.Laws as Move-l
 use Rattle.moves.specs.declared.Tally.{Tally}
 use Rattle.moves.proofs.Tally as Tally-m
+use Rattle.steps.specs.declared.Standing.{Standing}
+use Rattle.steps.proofs.Standing as Standing-m
+use Rattle.steps.proofs.Standing.Laws as Standing-l
+use Rattle.steps.specs.declared.Moved.{Moved}
+use Rattle.steps.proofs.Moved as Moved-m
+use Rattle.steps.proofs.Moved.Laws as Moved-l
 use Rattle.moves.specs.Tally.{raised, Low}
-use Rattle.search.specs.Standing.{Ready, Stepped}
-use Rattle.search.specs.Standing.{MovedIn}
+use Rattle.steps.specs.Standing.{Ready}
+use Rattle.search.specs.Turns.{Stepped}
+use Rattle.steps.specs.Standing.{MovedIn}
 use Rattle.search.proofs.Again as Again
 use Rattle.search.proofs.Looped as laws
-use Rattle.search.proofs.standing.move_in_turns as standing-move-in-turns-c
-use Rattle.search.proofs.standing.move_in_turns.Symbol as standing-move-in-turns-c-def
-use Rattle.search.proofs.standing.move_in_turns.Symbol.{name as #search·standing·move-in-turns}
-use Rattle.search.proofs.standing.move_in_turns.Met as standing-move-in-turns-c-thm
+use Rattle.steps.proofs.move_in_turns as move-in-turns-c
+use Rattle.steps.proofs.move_in_turns.Symbol as move-in-turns-c-def
+use Rattle.steps.proofs.move_in_turns.Symbol.{name as #steps·move-in-turns}
+use Rattle.steps.proofs.move_in_turns.Met as move-in-turns-c-thm
 use Rattle.search.proofs.turns.raise as turns-raise-c
 use Rattle.search.proofs.turns.raise.Symbol as turns-raise-c-def
 use Rattle.search.proofs.turns.raise.Symbol.{name as #search·turns·raise}
@@ -74,8 +75,8 @@ abbrev stayed : Stays (f.ended .signature .params) (f.ended .kept)
 stayed = (stay-slice (0 ∷ []) tt (plain (λ _. u16)), (stay-ref (1 ∷ []) tt (plain (λ _. Tally-m.the-row)), (stay-none-slice (2 ∷ []) tt (plain (λ _. u8)) yes, (stay-none-slice (3 ∷ []) tt (plain (λ _. u16)) yes, (stay-none-slice (4 ∷ []) tt (plain (λ _. u16)) yes, (stay-none-slice (5 ∷ []) tt (plain (λ _. u16)) yes, (stay-none (λ _. usize) yes, (stay-none (λ _. Standing-m.the-row) yes, tt))))))))
 
 module _ {M : Type 1} (𝓤 : URA M) (H : Heap 𝓤) (A : Atoms 𝓤) (at-mem : Memory → SProp 𝓤) (run : Routine → Fun 𝓤) where
-  abbrev StandingMoveInTurns-K : Contract 𝓤
-  StandingMoveInTurns-K = tripleOf 𝓤 H A standing-move-in-turns-c.signature (standing-move-in-turns-c.spec 𝓤 H A at-mem run)
+  abbrev MoveInTurns-K : Contract 𝓤
+  MoveInTurns-K = tripleOf 𝓤 H A move-in-turns-c.signature (move-in-turns-c.spec 𝓤 H A at-mem run)
 
   abbrev TurnsRaise-K : Contract 𝓤
   TurnsRaise-K = tripleOf 𝓤 H A turns-raise-c.signature (turns-raise-c.spec 𝓤 H A at-mem run)
@@ -134,11 +135,11 @@ module _ {M : Type 1} (𝓤 : URA M) (H : Heap 𝓤) (A : Atoms 𝓤) (W : Given
       qed W (‵ (room-own room-κ room-γ (room-z) (length (room-z))) ∷ ‵ (flft room-κ room-q) ∷ ‵ (tally-own tally-κ tally-γ (tally-z)) ∷ ‵ (flft tally-κ tally-q) ∷ ‵ turns-own ∷ ‵ (flft turns-κ turns-q) ∷ ‵ offsets-own ∷ ‵ (flft offsets-κ offsets-q) ∷ ‵ targets-own ∷ ‵ (flft targets-κ targets-q) ∷ ‵ flags-own ∷ ‵ (flft flags-κ flags-q) ∷ []) ∵ rewrite ! 0 (λ (m : ℕ). ‵ (room-own room-κ room-γ room-z m)) room-same refl $ suffices ! _ (ends-at 𝓤 H A f.ended stayed (f.clauses 𝓤 H A at-mem run) W bound (LL.val Standing-m.the-type Standing-l.the-laws (r)) r (room-z, (tally-z, (tt, (tt, (tt, (tt, (tt, (tt, tt)))))))) (room-same, (tt, (tt, (tt, (tt, (tt, (tt, (tt, tt))))))))) $ says ! e $
       nothing ! $ move ! (12 ∷ 0 ∷ []) $ join ! $ move ! (10 ∷ 0 ∷ []) $ join ! $ move ! (8 ∷ 0 ∷ []) $ join ! $ move ! (6 ∷ 0 ∷ []) $ join ! $ move ! (4 ∷ 0 ∷ []) $ join ! $ move ! (2 ∷ 0 ∷ []) $ join ! $ frame ! $ nothing ! $ owned ! Standing-m.the-row (Is Standing-m.the-row) (LL.makes Standing-m.the-type Standing-l.the-plain 𝓤 H A) (s) _ (s-is) $ fjoin ! $ owned ! usize (Is usize) (uint-makes 𝓤 H A W w64) (workers) _ (refl, workers-is) $ fjoin ! $ move ! (6 ∷ 0 ∷ []) $ fjoin ! $ move ! (5 ∷ 0 ∷ []) $ fjoin ! $ move ! (4 ∷ 0 ∷ []) $ fjoin ! $ move ! (3 ∷ 0 ∷ []) $ fjoin ! $ move ! (2 ∷ 0 ∷ []) $ fjoin ! $ move ! (1 ∷ 0 ∷ []) $ fjoin ! $ owned ! Standing-m.the-row (Is Standing-m.the-row) (LL.makes Standing-m.the-type Standing-l.the-plain 𝓤 H A) (r) _ (r-is) $ move ! (1 ∷ 0 ∷ []) $ done !
 
-  -- the call of search::standing::move_in_turns
-  abbrev to-0 : (room-ν : ℕ) (room-δ : GName) (room-z : List ℕ) → StandingMoveInTurns-K 𝓤 H A at-mem run .Ghost
+  -- the call of steps::move_in_turns
+  abbrev to-0 : (room-ν : ℕ) (room-δ : GName) (room-z : List ℕ) → MoveInTurns-K 𝓤 H A at-mem run .Ghost
   to-0 room-ν room-δ room-z = (((room-ν ∷ [], (turns-κ, (offsets-κ, (targets-κ, (flags-κ, tt))))), (fullShare, (turns-q, (offsets-q, (targets-q, (flags-q, tt))))), tt, (room-at room-δ room-z, (turns, (offsets, (targets, (flags, (workers, (s, tt))))))), (room-s (length (room-z)) ∷ [], (turns-s ∷ [], (offsets-s ∷ [], (targets-s ∷ [], (flags-s ∷ [], (vint w64 workers ∷ [], (LL.val Standing-m.the-type Standing-l.the-laws (s) ∷ [], tt)))))))), tt)
 
-  goes-0 : (room-ν : ℕ) (room-δ : GName) (room-z : List ℕ) → Ready (offsets .now) (targets .now) (flags .now) (turns .now) (workers) (s) (room-z) → ent 𝓤 (⋆ 𝓤 H A ((((((((((‵ (flft (room-ν ∷ []) fullShare) ⊛ ‵ (flft (turns-κ) turns-q)) ⊛ ‵ (flft (offsets-κ) offsets-q)) ⊛ ‵ (flft (targets-κ) targets-q)) ⊛ ‵ (flft (flags-κ) flags-q)) ⊛ ‵ (room-own (room-ν ∷ []) room-δ (room-z) (length (room-z)))) ⊛ ‵ (turns-own)) ⊛ ‵ (offsets-own)) ⊛ ‵ (targets-own)) ⊛ ‵ (flags-own)) ∷ [])) (StandingMoveInTurns-K 𝓤 H A at-mem run .pre (to-0 room-ν room-δ room-z))
+  goes-0 : (room-ν : ℕ) (room-δ : GName) (room-z : List ℕ) → Ready (offsets .now) (targets .now) (flags .now) (turns .now) (workers) (s) (room-z) → ent 𝓤 (⋆ 𝓤 H A ((((((((((‵ (flft (room-ν ∷ []) fullShare) ⊛ ‵ (flft (turns-κ) turns-q)) ⊛ ‵ (flft (offsets-κ) offsets-q)) ⊛ ‵ (flft (targets-κ) targets-q)) ⊛ ‵ (flft (flags-κ) flags-q)) ⊛ ‵ (room-own (room-ν ∷ []) room-δ (room-z) (length (room-z)))) ⊛ ‵ (turns-own)) ⊛ ‵ (offsets-own)) ⊛ ‵ (targets-own)) ⊛ ‵ (flags-own)) ∷ [])) (MoveInTurns-K 𝓤 H A at-mem run .pre (to-0 room-ν room-δ room-z))
   goes-0 room-ν room-δ room-z asked = qed W ((((((((((‵ (flft (room-ν ∷ []) fullShare) ⊛ ‵ (flft (turns-κ) turns-q)) ⊛ ‵ (flft (offsets-κ) offsets-q)) ⊛ ‵ (flft (targets-κ) targets-q)) ⊛ ‵ (flft (flags-κ) flags-q)) ⊛ ‵ (room-own (room-ν ∷ []) room-δ (room-z) (length (room-z)))) ⊛ ‵ (turns-own)) ⊛ ‵ (offsets-own)) ⊛ ‵ (targets-own)) ⊛ ‵ (flags-own)) ∷ []) ∵ says ! asked $ split ! $ split ! $ split ! $ split ! $ split ! $ split ! $ split ! $ split ! $ split ! $ nothing ! $ move ! (5 ∷ 0 ∷ []) $ join ! $ move ! (4 ∷ 0 ∷ []) $ join ! $ move ! (3 ∷ 0 ∷ []) $ join ! $ move ! (2 ∷ 0 ∷ []) $ join ! $ move ! (1 ∷ 0 ∷ []) $ join ! $ frame ! $ nothing ! $ owned ! Standing-m.the-row (Is Standing-m.the-row) (LL.makes Standing-m.the-type Standing-l.the-plain 𝓤 H A) (s) _ (s-is) $ fjoin ! $ owned ! usize (Is usize) (uint-makes 𝓤 H A W w64) (workers) _ (refl, workers-is) $ fjoin ! $ move ! (5 ∷ 0 ∷ []) $ fjoin ! $ move ! (4 ∷ 0 ∷ []) $ fjoin ! $ move ! (3 ∷ 0 ∷ []) $ fjoin ! $ move ! (2 ∷ 0 ∷ []) $ fjoin ! $ move ! (1 ∷ 0 ∷ []) $ fjoin ! $ done !
 
   -- the call of search::turns::raise
@@ -148,7 +149,7 @@ module _ {M : Type 1} (𝓤 : URA M) (H : Heap 𝓤) (A : Atoms 𝓤) (W : Given
   goes-1 : (tally-ν : ℕ) (tally-δ : GName) (tally-z : Tally) (y1 : Move) (y1-is : Is Move-m.the-row y1 (EL.vals Move-m.the-type Move-l.the-laws (y1))) → Low (tally-z) → ent 𝓤 (⋆ 𝓤 H A ((‵ (flft (tally-ν ∷ []) fullShare) ⊛ ‵ (tally-own (tally-ν ∷ []) tally-δ (tally-z))) ∷ [])) (TurnsRaise-K 𝓤 H A at-mem run .pre (to-1 tally-ν tally-δ tally-z y1 y1-is))
   goes-1 tally-ν tally-δ tally-z y1 y1-is asked = qed W ((‵ (flft (tally-ν ∷ []) fullShare) ⊛ ‵ (tally-own (tally-ν ∷ []) tally-δ (tally-z))) ∷ []) ∵ says ! asked $ split ! $ nothing ! $ move ! (1 ∷ 0 ∷ []) $ join ! $ frame ! $ nothing ! $ owned ! Move-m.the-row (Is Move-m.the-row) (EL.makes Move-m.the-type Move-l.the-plain 𝓤 H A) (y1) _ (y1-is) $ fjoin ! $ move ! (1 ∷ 0 ∷ []) $ fjoin ! $ done !
 
-  module _ (𝓣 : Tables 𝓤 H) (known-search·standing·move-in-turns : Triple 𝓤 (𝓣 .C #search·standing·move-in-turns) (StandingMoveInTurns-K 𝓤 H A at-mem run)) (known-search·turns·raise : Triple 𝓤 (𝓣 .C #search·turns·raise) (TurnsRaise-K 𝓤 H A at-mem run)) (room-g : Room u16 (length room-xs)) (turns-g : Room u8 (length (turns .now))) (offsets-g : Room u16 (length (offsets .now))) (targets-g : Room u16 (length (targets .now))) (flags-g : Room u16 (length (flags .now))) where
+  module _ (𝓣 : Tables 𝓤 H) (known-steps·move-in-turns : Triple 𝓤 (𝓣 .C #steps·move-in-turns) (MoveInTurns-K 𝓤 H A at-mem run)) (known-search·turns·raise : Triple 𝓤 (𝓣 .C #search·turns·raise) (TurnsRaise-K 𝓤 H A at-mem run)) (room-g : Room u16 (length room-xs)) (turns-g : Room u8 (length (turns .now))) (offsets-g : Room u16 (length (offsets .now))) (targets-g : Room u16 (length (targets .now))) (flags-g : Room u16 (length (flags .now))) where
     abbrev C : Calls 𝓤 H
     C = 𝓣 .C
 
@@ -160,10 +161,10 @@ module _ {M : Type 1} (𝓤 : URA M) (H : Heap 𝓤) (A : Atoms 𝓤) (W : Given
         qed W ((‵ (flft room-κ room-q) ⊛ ‵ (flft tally-κ tally-q) ⊛ ‵ (flft turns-κ turns-q) ⊛ ‵ (flft offsets-κ offsets-q) ⊛ ‵ (flft targets-κ targets-q) ⊛ ‵ (flft flags-κ flags-q) ⊛ ‵ ftrue) ∷ ‵ (owns (MutSlice (named 0) room-κ u16 ∷ MutRef (named 1) tally-κ Tally-m.the-row ∷ ShrSlice (named 2) turns-κ u8 ∷ ShrSlice (named 3) offsets-κ u16 ∷ ShrSlice (named 4) targets-κ u16 ∷ ShrSlice (named 5) flags-κ u16 ∷ usize ∷ Standing-m.the-row ∷ []) (room-at room-γ (room-xs), (tally-at tally-γ (tally-xs), (turns, (offsets, (targets, (flags, (workers, (s, tt)))))))) (room-s (length (room-xs)) ∷ [], (vptr tally-b tally-o ∷ [], (turns-s ∷ [], (offsets-s ∷ [], (targets-s ∷ [], (flags-s ∷ [], (vint w64 workers ∷ [], (LL.val Standing-m.the-type Standing-l.the-laws (s) ∷ [], tt))))))))) ∷ []) ∵ enter ! C Λ code.function (room-s (length (room-xs)) ∷ vptr tally-b tally-o ∷ turns-s ∷ offsets-s ∷ targets-s ∷ flags-s ∷ vint w64 workers ∷ LL.val Standing-m.the-type Standing-l.the-laws (s) ∷ []) _ $
         alloc1 ! (λ l0. alloc1 ! (λ l1. alloc1 ! (λ l2. alloc1 ! (λ l3. alloc1 ! (λ l4. alloc1 ! (λ l5. alloc1 ! (λ l6. alloc1 ! (λ l7. alloc1 ! (λ l8. alloc1 ! (λ l9. alloc1 ! (λ l10. alloc1 ! (λ l11. alloc1 ! (λ l12. alloc1 ! (λ l13. alloc0 ! $ params1 ! $ pass1 ! (init ! 24 refl (tt, (tt, (record { fits = room-g .0 }, tt)))) $ pass1 ! (init ! 22 refl (tt, tt)) $ pass1 ! (init ! 20 refl (tt, (tt, (record { fits = turns-g .0 }, tt)))) $ pass1 ! (init ! 18 refl (tt, (tt, (record { fits = offsets-g .0 }, tt)))) $ pass1 ! (init ! 16 refl (tt, (tt, (record { fits = targets-g .0 }, tt)))) $ pass1 ! (init ! 14 refl (tt, (tt, (record { fits = flags-g .0 }, tt)))) $ pass1 ! (init ! 12 refl (tt, record { fits = workers-is })) $ pass1 ! (init ! 10 refl (LL.lawful Standing-m.the-type Standing-l.the-laws 𝓤 H A W .typed (s) _ (s-is) .0)) $ pass0 ! $
         move ! (28 ∷ []) $ split ! $ move ! (1 ∷ []) $ split ! $ move ! (1 ∷ []) $ split ! $ move ! (1 ∷ []) $ split ! $ move ! (1 ∷ []) $ split ! $ move ! (1 ∷ []) $ split ! $ move ! (35 ∷ []) $ fsplit ! $ move ! (1 ∷ []) $ fsplit ! $ move ! (1 ∷ []) $ fsplit ! $ move ! (1 ∷ []) $ fsplit ! $ move ! (1 ∷ []) $ fsplit ! $ move ! (1 ∷ []) $ fsplit ! $ assigns ! (addr ! (from ! (fld ! refl (hop ! (look-in ! 38 (sub ! 0 refl (whole !))) (stop !))))) (from ! (stop !)) (init ! 20 refl (tt, tt)) $ assigns ! (agg ! (and-then ! (load ! (from ! (stop !)) (look ! 20 refl)) (and-then ! (load ! (from ! (fld ! refl (stop !))) (look-in ! 38 (sub ! 1 refl (whole !)))) (no-more !)))) (from ! (stop !)) (init ! 18 refl (tt, (tt, (record { fits = room-g .0 }, tt)))) $
-        -- standing::move_in_turns
+        -- move_in_turns
         lft-new ! tt (λ room-ν0. move ! (7 ∷ 14 ∷ []) $ use2 W (later (some (λ (δ : GName). ‵ (room-own (room-ν0 ∷ []) δ (room-xs) (length (room-xs))) ⊛ ‵ (Again.LentAgain u16 room-κ (room-ν0 ∷ []) room-q room-γ room-b room-o δ (room-xs))))) (Again.lends-again u16 room-κ (room-ν0 ∷ []) room-q room-γ room-b room-o 𝓤 H A W (named 0) (named 0) (room-xs)) $ await ! tt $ pick ! (λ room-δ0. split ! $
-        move ! (7 ∷ []) $ use1 W (‵ turns-own ⊛ ‵ turns-own) (shr-slice-copy 𝓤 H A W (named 2) turns-κ u8 .twice turns (turns-s ∷ [])) $ split ! $ move ! (8 ∷ []) $ use1 W (‵ offsets-own ⊛ ‵ offsets-own) (shr-slice-copy 𝓤 H A W (named 3) offsets-κ u16 .twice offsets (offsets-s ∷ [])) $ split ! $ move ! (9 ∷ []) $ use1 W (‵ targets-own ⊛ ‵ targets-own) (shr-slice-copy 𝓤 H A W (named 4) targets-κ u16 .twice targets (targets-s ∷ [])) $ split ! $ move ! (9 ∷ []) $ use1 W (‵ flags-own ⊛ ‵ flags-own) (shr-slice-copy 𝓤 H A W (named 5) flags-κ u16 .twice flags (flags-s ∷ [])) $ split ! $ move ! (10 ∷ 17 ∷ 16 ∷ 15 ∷ 13 ∷ 8 ∷ 6 ∷ 4 ∷ 2 ∷ 0 ∷ []) $ join ! $ join ! $ join ! $ join ! $ join ! $ join ! $ join ! $ join ! $ join ! $ use1 W (raw (StandingMoveInTurns-K 𝓤 H A at-mem run .pre (to-0 room-ν0 room-δ0 (room-xs)))) (goes-0 room-ν0 room-δ0 (room-xs) (pre .0)) $
-        calls-at ! (fmOf 𝓤 H (W .laws) 𝓣) (StandingMoveInTurns-K 𝓤 H A at-mem run) known-search·standing·move-in-turns (to-0 room-ν0 room-δ0 (room-xs)) (and-then ! (load ! (from ! (stop !)) (look ! 14 refl)) (and-then ! (load ! (from ! (stop !)) (look ! 30 refl)) (and-then ! (load ! (from ! (stop !)) (look ! 28 refl)) (and-then ! (load ! (from ! (stop !)) (look ! 26 refl)) (and-then ! (load ! (from ! (stop !)) (look ! 24 refl)) (and-then ! (load ! (from ! (stop !)) (look ! 22 refl)) (and-then ! (load ! (from ! (stop !)) (look ! 20 refl)) (no-more !)))))))) (λ v0. use1 W (later (some (λ (r : Moved). ((‵ (flft (room-ν0 ∷ []) fullShare) ⊛ ‵ (flft turns-κ turns-q) ⊛ ‵ (flft offsets-κ offsets-q) ⊛ ‵ (flft targets-κ targets-q) ⊛ ‵ (flft flags-κ flags-q) ⊛ ‵ ftrue) ⊛ ‵ (Moved-m.the-row .own r (v0 ∷ []))) ⊛ raw (ensured 𝓤 H A standing-move-in-turns-c.ended (standing-move-in-turns-c.clauses 𝓤 H A at-mem run) (room-ν0 ∷ [], (turns-κ, (offsets-κ, (targets-κ, (flags-κ, tt))))) ((room-at room-δ0 (room-xs), (turns, (offsets, (targets, (flags, (workers, (s, tt)))))))) tt r)))) (id⊢ 𝓤 _) $ await ! tt $ pick ! (λ r0. split ! $ move ! (1 ∷ []) $ use1 W (some (λ (ws : (List ℕ × (Unit {0} × (Unit {0} × (Unit {0} × (Unit {0} × (Unit {0} × (Unit {0} × Unit {0})))))))). ‵ (lasts standing-move-in-turns-c.ended (room-ν0 ∷ [], (turns-κ, (offsets-κ, (targets-κ, (flags-κ, tt))))) ((room-at room-δ0 (room-xs), (turns, (offsets, (targets, (flags, (workers, (s, tt)))))))) ws) ⊛ raw (fact 𝓤 (MovedIn (offsets .now) (targets .now) (flags .now) (turns .now) (workers) (s) (room-xs) (r0) (ws .0))))) (id⊢ 𝓤 _) $ pick ! (λ ws0. split ! $ move ! (1 ∷ []) $ heard ! (MovedIn (offsets .now) (targets .now) (flags .now) (turns .now) (workers) (s) (room-xs) (r0) (ws0 .0)) (λ e0.
+        move ! (7 ∷ []) $ use1 W (‵ turns-own ⊛ ‵ turns-own) (shr-slice-copy 𝓤 H A W (named 2) turns-κ u8 .twice turns (turns-s ∷ [])) $ split ! $ move ! (8 ∷ []) $ use1 W (‵ offsets-own ⊛ ‵ offsets-own) (shr-slice-copy 𝓤 H A W (named 3) offsets-κ u16 .twice offsets (offsets-s ∷ [])) $ split ! $ move ! (9 ∷ []) $ use1 W (‵ targets-own ⊛ ‵ targets-own) (shr-slice-copy 𝓤 H A W (named 4) targets-κ u16 .twice targets (targets-s ∷ [])) $ split ! $ move ! (9 ∷ []) $ use1 W (‵ flags-own ⊛ ‵ flags-own) (shr-slice-copy 𝓤 H A W (named 5) flags-κ u16 .twice flags (flags-s ∷ [])) $ split ! $ move ! (10 ∷ 17 ∷ 16 ∷ 15 ∷ 13 ∷ 8 ∷ 6 ∷ 4 ∷ 2 ∷ 0 ∷ []) $ join ! $ join ! $ join ! $ join ! $ join ! $ join ! $ join ! $ join ! $ join ! $ use1 W (raw (MoveInTurns-K 𝓤 H A at-mem run .pre (to-0 room-ν0 room-δ0 (room-xs)))) (goes-0 room-ν0 room-δ0 (room-xs) (pre .0)) $
+        calls-at ! (fmOf 𝓤 H (W .laws) 𝓣) (MoveInTurns-K 𝓤 H A at-mem run) known-steps·move-in-turns (to-0 room-ν0 room-δ0 (room-xs)) (and-then ! (load ! (from ! (stop !)) (look ! 14 refl)) (and-then ! (load ! (from ! (stop !)) (look ! 30 refl)) (and-then ! (load ! (from ! (stop !)) (look ! 28 refl)) (and-then ! (load ! (from ! (stop !)) (look ! 26 refl)) (and-then ! (load ! (from ! (stop !)) (look ! 24 refl)) (and-then ! (load ! (from ! (stop !)) (look ! 22 refl)) (and-then ! (load ! (from ! (stop !)) (look ! 20 refl)) (no-more !)))))))) (λ v0. use1 W (later (some (λ (r : Moved). ((‵ (flft (room-ν0 ∷ []) fullShare) ⊛ ‵ (flft turns-κ turns-q) ⊛ ‵ (flft offsets-κ offsets-q) ⊛ ‵ (flft targets-κ targets-q) ⊛ ‵ (flft flags-κ flags-q) ⊛ ‵ ftrue) ⊛ ‵ (Moved-m.the-row .own r (v0 ∷ []))) ⊛ raw (ensured 𝓤 H A move-in-turns-c.ended (move-in-turns-c.clauses 𝓤 H A at-mem run) (room-ν0 ∷ [], (turns-κ, (offsets-κ, (targets-κ, (flags-κ, tt))))) ((room-at room-δ0 (room-xs), (turns, (offsets, (targets, (flags, (workers, (s, tt)))))))) tt r)))) (id⊢ 𝓤 _) $ await ! tt $ pick ! (λ r0. split ! $ move ! (1 ∷ []) $ use1 W (some (λ (ws : (List ℕ × (Unit {0} × (Unit {0} × (Unit {0} × (Unit {0} × (Unit {0} × (Unit {0} × Unit {0})))))))). ‵ (lasts move-in-turns-c.ended (room-ν0 ∷ [], (turns-κ, (offsets-κ, (targets-κ, (flags-κ, tt))))) ((room-at room-δ0 (room-xs), (turns, (offsets, (targets, (flags, (workers, (s, tt)))))))) ws) ⊛ raw (fact 𝓤 (MovedIn (offsets .now) (targets .now) (flags .now) (turns .now) (workers) (s) (room-xs) (r0) (ws .0))))) (id⊢ 𝓤 _) $ pick ! (λ ws0. split ! $ move ! (1 ∷ []) $ heard ! (MovedIn (offsets .now) (targets .now) (flags .now) (turns .now) (workers) (s) (room-xs) (r0) (ws0 .0)) (λ e0.
         fsplit ! $ fsplit ! $ move ! (1 ∷ []) $ feqL ! (λ room-l0. move ! (2 ∷ []) $ split ! $ move ! (1 ∷ []) $ peeks ! Moved-m.the-row (Is Moved-m.the-row) (shows 𝓤 H A Moved-m.the-row) r0 (v0 ∷ []) (λ is0.
         move ! (1 ∷ []) $ split ! $ move ! (1 ∷ []) $ split ! $ move ! (1 ∷ []) $ split ! $ move ! (1 ∷ []) $ split ! $ move ! (1 ∷ []) $ split ! $ move ! (5 ∷ []) $ lft-end ! tt $ move ! (0 ∷ 13 ∷ 7 ∷ []) $ use3 W (later (‵ (room-own room-κ room-γ (ws0 .0) (length (room-xs))) ⊛ ‵ (flft room-κ room-q))) (Again.comes-back u16 room-κ (room-ν0 ∷ []) room-q room-γ room-b room-o 𝓤 H A W (named 0) (named 0) (room-xs) room-δ0 (ws0 .0) (room-g) room-l0) $ await ! tt $ split ! $
         land ! (from ! (stop !)) (init ! 25 refl (LL.lawful Moved-m.the-type Moved-l.the-laws 𝓤 H A W .typed (r0) _ (is0) .0)) $ rewrite ! 25 (λ (u : Val). ‵ (fat fullShare Moved-l.mir l9 0 u)) (ap only (LL.tells Moved-m.the-type Moved-l.the-laws r0 (v0 ∷ []) is0)) refl $ rewrite ! 0 (λ (m : ℕ). ‵ (room-own room-κ room-γ (ws0 .0) m)) (sym room-l0) refl $ rewrite ! 41 (λ (m : ℕ). ‵ (fat fullShare (sliceTy (tyRef (named 0) mut (tyInt w16))) l1 0 (room-s m))) (sym room-l0) refl $ assigns ! (addr ! (from ! (hop ! (look ! 39 refl) (stop !)))) (from ! (stop !)) (init ! 17 refl (tt, tt)) $
@@ -177,15 +178,15 @@ module _ {M : Type 1} (𝓤 : URA M) (H : Heap 𝓤) (A : Atoms 𝓤) (W : Given
         returns ! (look ! 45 refl) $ forget ! 45 refl $ forget ! 43 refl $ forget ! 41 refl $ forget ! 39 refl $ forget ! 37 refl $ forget ! 35 refl $ forget ! 33 refl $ forget ! 31 refl $ forget ! 29 refl $ forget ! 27 refl $ forget ! 25 refl $ forget ! 23 refl $ forget ! 21 refl $ forget ! 19 refl $ move ! (45 ∷ 46 ∷ []) $ free1 ! $ move ! (43 ∷ 44 ∷ []) $ free1 ! $ move ! (41 ∷ 42 ∷ []) $ free1 ! $ move ! (39 ∷ 40 ∷ []) $ free1 ! $ move ! (37 ∷ 38 ∷ []) $ free1 ! $ move ! (35 ∷ 36 ∷ []) $ free1 ! $ move ! (33 ∷ 34 ∷ []) $ free1 ! $ move ! (31 ∷ 32 ∷ []) $ free1 ! $ move ! (29 ∷ 30 ∷ []) $ free1 ! $ move ! (27 ∷ 28 ∷ []) $ free1 ! $ move ! (25 ∷ 26 ∷ []) $ free1 ! $ move ! (23 ∷ 24 ∷ []) $ free1 ! $ move ! (21 ∷ 22 ∷ []) $ free1 ! $ move ! (19 ∷ 20 ∷ []) $ free1 ! $ free0 ! $ keep ! (4 ∷ 5 ∷ 0 ∷ 1 ∷ 16 ∷ 10 ∷ 15 ∷ 9 ∷ 14 ∷ 8 ∷ 13 ∷ 6 ∷ []) $ by ! (exits (ws0 .0) (ws1 .0) ((r0) .standing) (LL.owed Moved-m.the-type Moved-l.the-laws (r0) _ (Again.retold Moved-m.the-row (LL.vals Moved-m.the-type Moved-l.the-laws) (LL.tells Moved-m.the-type Moved-l.the-laws) r0 (v0 ∷ []) is0) .1 .0) (room-l0) (laws.stepped (offsets .now) (targets .now) (flags .now) (turns .now) (workers) s room-xs tally-xs r0 (ws0 .0) (ws1 .0) e0 e1)))))))))))))))))))))))))))))))
 
 module _ {M : Type 1} (𝓤 : URA M) (H : Heap 𝓤) (A : Atoms 𝓤) (W : Given 𝓤 H A) (at-mem : Memory → SProp 𝓤) (run : Routine → Fun 𝓤) where
-  walks : (𝓣 : Tables 𝓤 H) → Triple 𝓤 (𝓣 .C #search·standing·move-in-turns) (StandingMoveInTurns-K 𝓤 H A at-mem run) → Triple 𝓤 (𝓣 .C #search·turns·raise) (TurnsRaise-K 𝓤 H A at-mem run) → Walks 𝓤 H A f.ended stayed (WpFn 𝓤 H (𝓣 .C) (𝓣 .Λ) code.function) (f.clauses 𝓤 H A at-mem run)
-  walks 𝓣 known-search·standing·move-in-turns known-search·turns·raise = walked 𝓤 H A f.ended stayed (f.clauses 𝓤 H A at-mem run) (WpFn 𝓤 H (𝓣 .C) (𝓣 .Λ) code.function) (λ κs. (slice-vals, (ptr-vals, (slice-vals, (slice-vals, (slice-vals, (slice-vals, (uint-vals w64, (LL.vals Standing-m.the-type Standing-l.the-laws, tt))))))))) (λ κs. (mut-slice-tells (named 0) (κs .0) u16, (mut-tells (named 1) (κs .1 .0) Tally-m.the-row, (shr-slice-tells (named 2) (κs .1 .1 .0) u8, (shr-slice-tells (named 3) (κs .1 .1 .1 .0) u16, (shr-slice-tells (named 4) (κs .1 .1 .1 .1 .0) u16, (shr-slice-tells (named 5) (κs .1 .1 .1 .1 .1 .0) u16, (uint-tells w64, (LL.tells Standing-m.the-type Standing-l.the-laws, tt)))))))))
-      (λ κs qs bounds a _ are. needs 𝓤 (Ready (a .1 .1 .1 .0 .now) (a .1 .1 .1 .1 .0 .now) (a .1 .1 .1 .1 .1 .0 .now) (a .1 .1 .0 .now) (a .1 .1 .1 .1 .1 .1 .0) (a .1 .1 .1 .1 .1 .1 .1 .0) (a .0 .now) × Low (a .1 .0 .now)) _ (walk 𝓤 H A W at-mem run (κs .0) (qs .0) (κs .1 .0) (qs .1 .0) (κs .1 .1 .0) (qs .1 .1 .0) (κs .1 .1 .1 .0) (qs .1 .1 .1 .0) (κs .1 .1 .1 .1 .0) (qs .1 .1 .1 .1 .0) (κs .1 .1 .1 .1 .1 .0) (qs .1 .1 .1 .1 .1 .0) (a .0 .ptr .0) (a .0 .ptr .1) (a .0 .name) (a .0 .now) (a .1 .0 .ptr .0) (a .1 .0 .ptr .1) (a .1 .0 .name) (a .1 .0 .now) (a .1 .1 .0) (a .1 .1 .1 .0) (a .1 .1 .1 .1 .0) (a .1 .1 .1 .1 .1 .0) (a .1 .1 .1 .1 .1 .1 .0) (are .1 .1 .1 .1 .1 .1 .0 .1) (a .1 .1 .1 .1 .1 .1 .1 .0) (are .1 .1 .1 .1 .1 .1 .1 .0) 𝓣 known-search·standing·move-in-turns known-search·turns·raise (are .0 .0 .1) (are .1 .1 .0 .0 .1) (are .1 .1 .1 .0 .0 .1) (are .1 .1 .1 .1 .0 .0 .1) (are .1 .1 .1 .1 .1 .0 .0 .1)))
+  walks : (𝓣 : Tables 𝓤 H) → Triple 𝓤 (𝓣 .C #steps·move-in-turns) (MoveInTurns-K 𝓤 H A at-mem run) → Triple 𝓤 (𝓣 .C #search·turns·raise) (TurnsRaise-K 𝓤 H A at-mem run) → Walks 𝓤 H A f.ended stayed (WpFn 𝓤 H (𝓣 .C) (𝓣 .Λ) code.function) (f.clauses 𝓤 H A at-mem run)
+  walks 𝓣 known-steps·move-in-turns known-search·turns·raise = walked 𝓤 H A f.ended stayed (f.clauses 𝓤 H A at-mem run) (WpFn 𝓤 H (𝓣 .C) (𝓣 .Λ) code.function) (λ κs. (slice-vals, (ptr-vals, (slice-vals, (slice-vals, (slice-vals, (slice-vals, (uint-vals w64, (LL.vals Standing-m.the-type Standing-l.the-laws, tt))))))))) (λ κs. (mut-slice-tells (named 0) (κs .0) u16, (mut-tells (named 1) (κs .1 .0) Tally-m.the-row, (shr-slice-tells (named 2) (κs .1 .1 .0) u8, (shr-slice-tells (named 3) (κs .1 .1 .1 .0) u16, (shr-slice-tells (named 4) (κs .1 .1 .1 .1 .0) u16, (shr-slice-tells (named 5) (κs .1 .1 .1 .1 .1 .0) u16, (uint-tells w64, (LL.tells Standing-m.the-type Standing-l.the-laws, tt)))))))))
+      (λ κs qs bounds a _ are. needs 𝓤 (Ready (a .1 .1 .1 .0 .now) (a .1 .1 .1 .1 .0 .now) (a .1 .1 .1 .1 .1 .0 .now) (a .1 .1 .0 .now) (a .1 .1 .1 .1 .1 .1 .0) (a .1 .1 .1 .1 .1 .1 .1 .0) (a .0 .now) × Low (a .1 .0 .now)) _ (walk 𝓤 H A W at-mem run (κs .0) (qs .0) (κs .1 .0) (qs .1 .0) (κs .1 .1 .0) (qs .1 .1 .0) (κs .1 .1 .1 .0) (qs .1 .1 .1 .0) (κs .1 .1 .1 .1 .0) (qs .1 .1 .1 .1 .0) (κs .1 .1 .1 .1 .1 .0) (qs .1 .1 .1 .1 .1 .0) (a .0 .ptr .0) (a .0 .ptr .1) (a .0 .name) (a .0 .now) (a .1 .0 .ptr .0) (a .1 .0 .ptr .1) (a .1 .0 .name) (a .1 .0 .now) (a .1 .1 .0) (a .1 .1 .1 .0) (a .1 .1 .1 .1 .0) (a .1 .1 .1 .1 .1 .0) (a .1 .1 .1 .1 .1 .1 .0) (are .1 .1 .1 .1 .1 .1 .0 .1) (a .1 .1 .1 .1 .1 .1 .1 .0) (are .1 .1 .1 .1 .1 .1 .1 .0) 𝓣 known-steps·move-in-turns known-search·turns·raise (are .0 .0 .1) (are .1 .1 .0 .0 .1) (are .1 .1 .1 .0 .0 .1) (are .1 .1 .1 .1 .0 .0 .1) (are .1 .1 .1 .1 .1 .0 .0 .1)))
 
   all-go : AllGo 𝓤 H A W 6 (f.signature .params) (f.ended .kept) stayed
   all-go = (goes-slice 𝓤 H A W 6 0 tt (plain (λ _. u16)), (goes-ref 𝓤 H A W 6 1 tt (plain (λ _. Tally-m.the-row)), (goes-none-slice 𝓤 H A W 6 (2 ∷ []) tt (plain (λ _. u8)) yes, (goes-none-slice 𝓤 H A W 6 (3 ∷ []) tt (plain (λ _. u16)) yes, (goes-none-slice 𝓤 H A W 6 (4 ∷ []) tt (plain (λ _. u16)) yes, (goes-none-slice 𝓤 H A W 6 (5 ∷ []) tt (plain (λ _. u16)) yes, (goes-none 𝓤 H A W 6 (λ _. usize) yes (λ κs x f. refl), (goes-none 𝓤 H A W 6 (λ _. Standing-m.the-row) yes (λ κs x f. refl), tt))))))))
 
-meets : {M : Type 1} (𝓤 : URA M) (H : Heap 𝓤) (A : Atoms 𝓤) → Given 𝓤 H A → (at-mem : Memory → SProp 𝓤) (run : Routine → Fun 𝓤) (𝓣 : Tables 𝓤 H) → Triple 𝓤 (𝓣 .C #search·standing·move-in-turns) (StandingMoveInTurns-K 𝓤 H A at-mem run) → Triple 𝓤 (𝓣 .C #search·turns·raise) (TurnsRaise-K 𝓤 H A at-mem run) → Meets 𝓤 H A f.signature (WpFn 𝓤 H (𝓣 .C) (𝓣 .Λ) code.function) (f.spec 𝓤 H A at-mem run)
-meets 𝓤 H A W at-mem run 𝓣 known-search·standing·move-in-turns known-search·turns·raise = walk-meets 𝓤 H A f.ended stayed W (all-go 𝓤 H A W at-mem run) (f.clauses 𝓤 H A at-mem run) (WpFn 𝓤 H (𝓣 .C) (𝓣 .Λ) code.function) (WpFn-mono 𝓤 H (W .laws) 𝓣 code.function) (walks 𝓤 H A W at-mem run 𝓣 known-search·standing·move-in-turns known-search·turns·raise)
+meets : {M : Type 1} (𝓤 : URA M) (H : Heap 𝓤) (A : Atoms 𝓤) → Given 𝓤 H A → (at-mem : Memory → SProp 𝓤) (run : Routine → Fun 𝓤) (𝓣 : Tables 𝓤 H) → Triple 𝓤 (𝓣 .C #steps·move-in-turns) (MoveInTurns-K 𝓤 H A at-mem run) → Triple 𝓤 (𝓣 .C #search·turns·raise) (TurnsRaise-K 𝓤 H A at-mem run) → Meets 𝓤 H A f.signature (WpFn 𝓤 H (𝓣 .C) (𝓣 .Λ) code.function) (f.spec 𝓤 H A at-mem run)
+meets 𝓤 H A W at-mem run 𝓣 known-steps·move-in-turns known-search·turns·raise = walk-meets 𝓤 H A f.ended stayed W (all-go 𝓤 H A W at-mem run) (f.clauses 𝓤 H A at-mem run) (WpFn 𝓤 H (𝓣 .C) (𝓣 .Λ) code.function) (WpFn-mono 𝓤 H (W .laws) 𝓣 code.function) (walks 𝓤 H A W at-mem run 𝓣 known-steps·move-in-turns known-search·turns·raise)
 
 pub step-in-turns-spec : {M : Type 1} → stated.statement M
 unfolding code.routine tablesOf
@@ -193,5 +194,5 @@ step-in-turns-spec 𝓤 H 𝓜 𝓖 𝓡 =
     entered 𝓤 H (tripleOf 𝓤 H (𝓖 .A) f.signature (f.spec 𝓤 H (𝓖 .A) (𝓜 .mem) (𝓡 .run)))
     (tables 𝓤 H 𝓜 𝓡 code.env .C) (tables 𝓤 H 𝓜 𝓡 code.env .Λ) #search·turns·step-in-turns code.function (code.unfolded 𝓤 H 𝓜 𝓡)
     (meets 𝓤 H (𝓖 .A) (givenOf 𝓤 H 𝓜 𝓖) (𝓜 .mem) (𝓡 .run) (tablesOf 𝓤 H 𝓜 (tables 𝓤 H 𝓜 𝓡 code.env))
-    (cited 𝓤 H (StandingMoveInTurns-K 𝓤 H (𝓖 .A) (𝓜 .mem) (𝓡 .run)) 𝓜 𝓡 code.env #search·standing·move-in-turns standing-move-in-turns-c-def.routine code.calls-search·standing·move-in-turns (standing-move-in-turns-c-thm.met 𝓤 H 𝓜 𝓖 𝓡))
+    (cited 𝓤 H (MoveInTurns-K 𝓤 H (𝓖 .A) (𝓜 .mem) (𝓡 .run)) 𝓜 𝓡 code.env #steps·move-in-turns move-in-turns-c-def.routine code.calls-steps·move-in-turns (move-in-turns-c-thm.met 𝓤 H 𝓜 𝓖 𝓡))
     (cited 𝓤 H (TurnsRaise-K 𝓤 H (𝓖 .A) (𝓜 .mem) (𝓡 .run)) 𝓜 𝓡 code.env #search·turns·raise turns-raise-c-def.routine code.calls-search·turns·raise (turns-raise-c-thm.met 𝓤 H 𝓜 𝓖 𝓡)))

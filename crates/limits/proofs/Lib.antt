@@ -1,0 +1,2 @@
+-- What it means that no refusal is given.
+pub mod Refused

@@ -1,0 +1,2 @@
+-- Refusals 9 to 13.
+pub mod Refusals
