@@ -9,7 +9,7 @@ sys.path.insert(0, os.path.dirname(os.path.abspath(__file__)))
 from source import Source
 from walks import Walk
 TOP = os.path.dirname(os.path.dirname(os.path.dirname(os.path.abspath(__file__))))
-CRATE, NEEDS = 'search', ['moves', 'limits', 'steps']
+CRATE, NEEDS = 'search', ['moves', 'limits', 'steps', 'ends']
 S = Source(TOP, CRATE, NEEDS)
 WORDS = ['offsets', 'targets', 'flags', 'turns', 'workers']
 ROUND = [w for w in WORDS if w != 'turns']

@@ -28,7 +28,7 @@ use Rattle.steps.specs.declared.played.Played.{Played}
 use Rattle.limits.specs.Refusals.{most-workers, refusalOf}
 use Rattle.steps.specs.Verdict.{answerOf, isOpen}
 use Rattle.steps.specs.Standing.{Held, Plays, stopped, goes, standingIn, standingOn, followed, allRounds, after, Stood, MovedOn}
-use Rattle.search.specs.Ends.{Beginning, begun, begunBy, begunIn, begunOn}
+use Rattle.ends.specs.Ends.{Beginning, begun, begunBy, begunIn, begunOn}
 use Rattle.limits.proofs.Refused.{Fine, fine}
 use Rattle.steps.proofs.Rounded.{all-few, first-standing}
 

@@ -13,13 +13,14 @@ use Rattle.moves.specs.declared.Tally.{Tally}
 use Rattle.moves.specs.Run.{Answer, cycle, none, undecided}
 use Rattle.theory.specs.Turns.{Decided, runToEnd}
 use Rattle.theory.proofs.Demands.{graph-of-words, end-decides}
-use Rattle.search.specs.declared.Outcome.{Outcome}
+use Rattle.ends.specs.declared.Outcome.{Outcome}
 use Rattle.steps.specs.declared.Standing.{Standing}
 use Rattle.limits.specs.Refusals.{refusalOf, usual}
-use Rattle.search.specs.Outcomes.{told, Lent, lent, tellsOf, left, outcome, outcomeToEnd, Settles}
+use Rattle.ends.specs.Told.{told, tellsOf}
+use Rattle.search.specs.Outcomes.{Lent, lent, left, outcome, outcomeToEnd, Settles}
 use Rattle.steps.specs.Standing.{allRounds}
 use Rattle.search.specs.Turns.{Begun, Ended, BegunRounds, EndedRounds}
-use Rattle.search.specs.Ends.{begun, begunIn, begunOn, resetOf, Finishing, finishedLasso, finishedOutcome}
+use Rattle.ends.specs.Ends.{begun, begunIn, begunOn, resetOf, Finishing, finishedLasso, finishedOutcome}
 use Rattle.limits.proofs.Refused.{fine, refusal-low}
 use Rattle.search.proofs.Opened.{Opened, opened-turns, opened-rounds}
 use Rattle.search.proofs.Whole.{begun-of, finishing-of, ran-of}

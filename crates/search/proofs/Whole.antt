@@ -21,18 +21,19 @@ use Rattle.moves.specs.Run.{Answer, Result, begin, runFrom, run}
 use Rattle.moves.proofs.Words.{Seen}
 use Rattle.theory.proofs.Demands.{graph-of-words}
 use Rattle.theory.proofs.Rooms.{run-fits}
-use Rattle.search.specs.declared.Outcome.{Outcome}
+use Rattle.ends.specs.declared.Outcome.{Outcome}
 use Rattle.steps.specs.declared.Stop.{Stop}
 use Rattle.steps.specs.declared.Stop.the-variants.{Open, Quiet, Found, Refused}
 use Rattle.steps.specs.declared.Standing.{Standing}
-use Rattle.search.specs.Outcomes.{told, told-refusal, Lent, lent, tellsOf, shown, left, unless}
+use Rattle.ends.specs.Told.{told, told-refusal, tellsOf, shown}
+use Rattle.search.specs.Outcomes.{Lent, lent, left, unless}
 use Rattle.steps.specs.Verdict.{answerOf}
 use Rattle.steps.specs.Standing.{Finds, stopped, standingIn, after, Stood, TallyOf}
 use Rattle.search.specs.Turns.{Underway, Begun, Ended}
-use Rattle.search.specs.Ends.{resetOf, FinishingBy, Finishing, lassoBy, finishedLasso, outcomeBy, finishedOutcome}
-use Rattle.search.proofs.Told.{refused-told}
-use Rattle.search.proofs.Fresh.{fresh-room}
-use Rattle.search.proofs.Shown.{shown-words, found-told, stacked-fits}
+use Rattle.ends.specs.Ends.{resetOf, FinishingBy, Finishing, lassoBy, finishedLasso, outcomeBy, finishedOutcome}
+use Rattle.ends.proofs.Numbered.{refused-told}
+use Rattle.ends.proofs.Fresh.{fresh-room}
+use Rattle.ends.proofs.Shown.{shown-words, found-told, stacked-fits}
 use Rattle.steps.proofs.Stood.{standing-used, standing-stop, named-first, stood-start, at-end}
 use Rattle.search.proofs.Opened.{Start, Opened}
 

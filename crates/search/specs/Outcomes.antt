@@ -1,35 +1,17 @@
 -- What a run leaves: what it tells, and every word that was lent to it.
 use Prim.Native.Nat.{ℕ}
-use mathlib.Core.Bool.{Bool, true, false, cond}
+use mathlib.Core.Bool.{cond}
 use mathlib.Core.List.{List, [], _++_}
 use lib.Dec.{eqb}
 use lib.ListN.{length, drop}
 use Rattle.graphs.specs.Words.{graphOf}
 use Rattle.moves.specs.declared.Tally.{Tally}
 use Rattle.moves.specs.Room.{roomSize}
-use Rattle.moves.specs.Run.{Answer, cycle, none, undecided, Result, run}
+use Rattle.moves.specs.Run.{Result, run}
 use Rattle.theory.specs.Turns.{runToEnd}
-use Rattle.search.specs.declared.Outcome.{Outcome}
-use Rattle.search.specs.declared.Outcome.the-variants.{Cycle, None, Undecided, NoWorkers, NoGraph, RoomShort, LassoShort, NoSuchWorker}
 use Rattle.limits.specs.Refusals.{refusalOf, usual}
-
--- the answer, with the lengths of stem and loop, and how many turns were used; or 01's number of the refusal and its line
-pub data Told : Type 0 where
-  told-cycle : (stem loop used : ℕ) → Told
-  told-none : (used : ℕ) → Told
-  told-undecided : (used : ℕ) → Told
-  told-refusal : (number line : ℕ) → Told
-
--- the paper's values for each case. 01: "A refusal for which no line is named carries 0."
-abbrev pub told : Outcome → Told
-told (Cycle stem round used) = told-cycle stem round used
-told (None used) = told-none used
-told (Undecided used) = told-undecided used
-told NoWorkers = told-refusal 9 0
-told NoGraph = told-refusal 10 0
-told RoomShort = told-refusal 11 0
-told LassoShort = told-refusal 12 0
-told NoSuchWorker = told-refusal 13 0
+use Rattle.ends.specs.declared.Outcome.{Outcome}
+use Rattle.ends.specs.Told.{Told, told-cycle, told-none, told-undecided, told-refusal, told, tellsOf, shown}
 
 pub record Lent : Type 0 where
   pub tells : Told
@@ -39,18 +21,6 @@ pub record Lent : Type 0 where
 
 abbrev pub lent : Outcome → List ℕ → List ℕ → Tally → Lent
 lent r room lasso t = record { tells = told r; room = room; lasso = lasso; tally = t }
-
--- 01: "Stem and then loop go to the front of the lasso room, their lengths into the result; the rest of it, and all of it at any other answer, is
--- unchanged."
-abbrev pub tellsOf : Answer → ℕ → Told
-tellsOf (cycle stem loop) used = told-cycle (length stem) (length loop) used
-tellsOf none used = told-none used
-tellsOf undecided used = told-undecided used
-
-abbrev pub shown : Answer → List ℕ → List ℕ
-shown (cycle stem loop) lasso = (stem ++ loop) ++ drop (length (stem ++ loop)) lasso
-shown none lasso = lasso
-shown undecided lasso = lasso
 
 -- 01: "The working room holds the machine's state after the last move made"; "Words beyond the needed ones are unchanged."
 unfoldable pub left : (n P : ℕ) → Result → (room lasso : List ℕ) → Lent

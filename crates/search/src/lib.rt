@@ -1,8 +1,7 @@
 // The two runs of 01 over lent words: refusals 9 to 13, the moves by turns, and the lasso.
-mod ends;
-mod lasso;
 mod turns;
 
+pub use ends::Outcome;
 use ends::finish;
 use ends::prepare;
 use ends::prepare_to_end;
@@ -13,20 +12,8 @@ use turns::over_turns;
 use turns::reset;
 ghost use mathlib.Core.Path.{_≡_};
 ghost use Rattle.moves.specs.Tally.{zeroes};
-ghost use Rattle.search.specs.Outcomes.{lent, outcome, outcomeToEnd, told, Settles};
-
-// What a run came to: an answer, with the turns used, or a refusal, in the order of 01's numbers 9 to 13.
-pub enum Outcome {
-    // the lengths of stem and loop, and the turns used
-    Cycle(usize, usize, usize),
-    None(usize),
-    Undecided(usize),
-    NoWorkers,
-    NoGraph,
-    RoomShort,
-    LassoShort,
-    NoSuchWorker,
-}
+ghost use Rattle.ends.specs.Told.{told};
+ghost use Rattle.search.specs.Outcomes.{lent, outcome, outcomeToEnd, Settles};
 
 // A run over a turn list, from the start. The room and the lasso room may be of any lengths and hold anything.
 pub fn run(

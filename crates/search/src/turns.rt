@@ -1,5 +1,5 @@
 // The turns of a run, one after the other. The tally is lent, and raised in place after each move; what it is raised to comes from `moves`.
-use crate::ends::reset_of;
+use ends::reset_of;
 use moves::Move;
 use moves::Tally;
 use steps::Standing;
@@ -9,7 +9,7 @@ ghost use mathlib.Core.Path.{_≡_};
 ghost use Rattle.moves.specs.Tally.{raised, Low};
 ghost use Rattle.steps.specs.Standing.{Ready, ReadyRound};
 ghost use Rattle.search.specs.Turns.{Stepped, Begun, Ended, SteppedRound, BegunRounds, EndedRounds};
-ghost use Rattle.search.specs.Ends.{resetOf};
+ghost use Rattle.ends.specs.Ends.{resetOf};
 
 fn raise(tally: &mut Tally, made: Move)
     requires { ⌜ Low (now tally) ⌝ }

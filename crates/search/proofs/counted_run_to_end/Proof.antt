@@ -43,17 +43,18 @@ use denote.Triple.Table.{entered, cited}
 use denote.Triple.Clauses.{ensured, lasts}
 use denote.Triple.Walked.{says, Stays, stay-none, goes-none, stay-slice, stay-none-slice, walkOf, AllGo, goes-slice, goes-none-slice, Walks, ends-at, walked, walk-meets}
 use denote.Exit.{yes}
-use Rattle.search.specs.declared.Outcome.{Outcome}
-use Rattle.search.proofs.Outcome as Outcome-m
-use Rattle.search.proofs.Outcome.Laws as Outcome-l
 use Rattle.search.specs.declared.Counted.{Counted}
 use Rattle.search.proofs.Counted as Counted-m
 use Rattle.search.proofs.Counted.Laws as Counted-l
 use Rattle.moves.specs.declared.Tally.{Tally}
 use Rattle.moves.proofs.Tally as Tally-m
 use Rattle.moves.proofs.Tally.Laws as Tally-l
+use Rattle.ends.specs.declared.Outcome.{Outcome}
+use Rattle.ends.proofs.Outcome as Outcome-m
+use Rattle.ends.proofs.Outcome.Laws as Outcome-l
 use Rattle.moves.specs.Tally.{zeroes}
-use Rattle.search.specs.Outcomes.{lent, outcome, outcomeToEnd, told, Settles}
+use Rattle.ends.specs.Told.{told}
+use Rattle.search.specs.Outcomes.{lent, outcome, outcomeToEnd, Settles}
 use Rattle.search.proofs.Again as Again
 use Rattle.search.proofs.run_to_end as run-to-end-c
 use Rattle.search.proofs.run_to_end.Symbol as run-to-end-c-def

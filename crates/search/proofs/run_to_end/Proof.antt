@@ -41,17 +41,18 @@ use denote.Triple.Table.{entered, cited}
 use denote.Triple.Clauses.{ensured, lasts}
 use denote.Triple.Walked.{says, Stays, stay-none, goes-none, stay-ref, stay-slice, stay-none-slice, walkOf, AllGo, goes-ref, goes-slice, goes-none-slice, Walks, ends-at, walked, walk-meets}
 use denote.Exit.{yes}
-use Rattle.search.specs.declared.Outcome.{Outcome}
-use Rattle.search.proofs.Outcome as Outcome-m
-use Rattle.search.proofs.Outcome.Laws as Outcome-l
 use Rattle.moves.specs.declared.Tally.{Tally}
 use Rattle.moves.proofs.Tally as Tally-m
 use Rattle.steps.specs.declared.Standing.{Standing}
 use Rattle.steps.proofs.Standing as Standing-m
 use Rattle.steps.proofs.Standing.Laws as Standing-l
-use Rattle.search.specs.Outcomes.{lent, outcomeToEnd, told, Settles}
+use Rattle.ends.specs.declared.Outcome.{Outcome}
+use Rattle.ends.proofs.Outcome as Outcome-m
+use Rattle.ends.proofs.Outcome.Laws as Outcome-l
+use Rattle.ends.specs.Told.{told}
+use Rattle.search.specs.Outcomes.{lent, outcomeToEnd, Settles}
 use Rattle.limits.specs.Refusals.{usual}
-use Rattle.search.specs.Ends.{begun, begunOn, Finishing, resetOf, finishedLasso, finishedOutcome}
+use Rattle.ends.specs.Ends.{begun, begunOn, Finishing, resetOf, finishedLasso, finishedOutcome}
 use Rattle.search.specs.Turns.{BegunRounds, EndedRounds}
 use Rattle.search.proofs.Again as Again
 use Rattle.search.proofs.Runs as laws
@@ -59,10 +60,10 @@ use Rattle.limits.proofs.usual as usual-c
 use Rattle.limits.proofs.usual.Symbol as usual-c-def
 use Rattle.limits.proofs.usual.Symbol.{name as #limits·usual}
 use Rattle.limits.proofs.usual.Met as usual-c-thm
-use Rattle.search.proofs.ends.prepare_to_end as ends-prepare-to-end-c
-use Rattle.search.proofs.ends.prepare_to_end.Symbol as ends-prepare-to-end-c-def
-use Rattle.search.proofs.ends.prepare_to_end.Symbol.{name as #search·ends·prepare-to-end}
-use Rattle.search.proofs.ends.prepare_to_end.Met as ends-prepare-to-end-c-thm
+use Rattle.ends.proofs.prepare_to_end as prepare-to-end-c
+use Rattle.ends.proofs.prepare_to_end.Symbol as prepare-to-end-c-def
+use Rattle.ends.proofs.prepare_to_end.Symbol.{name as #ends·prepare-to-end}
+use Rattle.ends.proofs.prepare_to_end.Met as prepare-to-end-c-thm
 use Rattle.search.proofs.turns.reset as turns-reset-c
 use Rattle.search.proofs.turns.reset.Symbol as turns-reset-c-def
 use Rattle.search.proofs.turns.reset.Symbol.{name as #search·turns·reset}
@@ -71,10 +72,10 @@ use Rattle.search.proofs.turns.over_rounds as turns-over-rounds-c
 use Rattle.search.proofs.turns.over_rounds.Symbol as turns-over-rounds-c-def
 use Rattle.search.proofs.turns.over_rounds.Symbol.{name as #search·turns·over-rounds}
 use Rattle.search.proofs.turns.over_rounds.Met as turns-over-rounds-c-thm
-use Rattle.search.proofs.ends.finish as ends-finish-c
-use Rattle.search.proofs.ends.finish.Symbol as ends-finish-c-def
-use Rattle.search.proofs.ends.finish.Symbol.{name as #search·ends·finish}
-use Rattle.search.proofs.ends.finish.Met as ends-finish-c-thm
+use Rattle.ends.proofs.finish as finish-c
+use Rattle.ends.proofs.finish.Symbol as finish-c-def
+use Rattle.ends.proofs.finish.Symbol.{name as #ends·finish}
+use Rattle.ends.proofs.finish.Met as finish-c-thm
 use Rattle.search.proofs.run_to_end.Key.{name as #search·run-to-end}
 use Rattle.search.proofs.run_to_end as f
 use Rattle.search.proofs.run_to_end.Statement as stated
@@ -87,8 +88,8 @@ module _ {M : Type 1} (𝓤 : URA M) (H : Heap 𝓤) (A : Atoms 𝓤) (at-mem : 
   abbrev Usual-K : Contract 𝓤
   Usual-K = tripleOf 𝓤 H A usual-c.signature (usual-c.spec 𝓤 H A at-mem run)
 
-  abbrev EndsPrepareToEnd-K : Contract 𝓤
-  EndsPrepareToEnd-K = tripleOf 𝓤 H A ends-prepare-to-end-c.signature (ends-prepare-to-end-c.spec 𝓤 H A at-mem run)
+  abbrev PrepareToEnd-K : Contract 𝓤
+  PrepareToEnd-K = tripleOf 𝓤 H A prepare-to-end-c.signature (prepare-to-end-c.spec 𝓤 H A at-mem run)
 
   abbrev TurnsReset-K : Contract 𝓤
   TurnsReset-K = tripleOf 𝓤 H A turns-reset-c.signature (turns-reset-c.spec 𝓤 H A at-mem run)
@@ -96,8 +97,8 @@ module _ {M : Type 1} (𝓤 : URA M) (H : Heap 𝓤) (A : Atoms 𝓤) (at-mem : 
   abbrev TurnsOverRounds-K : Contract 𝓤
   TurnsOverRounds-K = tripleOf 𝓤 H A turns-over-rounds-c.signature (turns-over-rounds-c.spec 𝓤 H A at-mem run)
 
-  abbrev EndsFinish-K : Contract 𝓤
-  EndsFinish-K = tripleOf 𝓤 H A ends-finish-c.signature (ends-finish-c.spec 𝓤 H A at-mem run)
+  abbrev Finish-K : Contract 𝓤
+  Finish-K = tripleOf 𝓤 H A finish-c.signature (finish-c.spec 𝓤 H A at-mem run)
 
 module _ {M : Type 1} (𝓤 : URA M) (H : Heap 𝓤) (A : Atoms 𝓤) (W : Given 𝓤 H A) (at-mem : Memory → SProp 𝓤) (run : Routine → Fun 𝓤) (room-κ : Lft) (room-q : Share) (lasso-κ : Lft) (lasso-q : Share) (tally-κ : Lft) (tally-q : Share) (offsets-κ : Lft) (offsets-q : Share) (targets-κ : Lft) (targets-q : Share) (flags-κ : Lft) (flags-q : Share) (room-b room-o : ℕ) (room-γ : GName) (room-xs : List ℕ) (lasso-b lasso-o : ℕ) (lasso-γ : GName) (lasso-xs : List ℕ) (tally-b tally-o : ℕ) (tally-γ : GName) (tally-xs : Tally) (offsets : RefT (List ℕ)) (targets : RefT (List ℕ)) (flags : RefT (List ℕ)) (workers : ℕ) (workers-is : workers < 2 ^ 64) where
   abbrev room-at : GName → List ℕ → RefT (List ℕ)
@@ -166,11 +167,11 @@ module _ {M : Type 1} (𝓤 : URA M) (H : Heap 𝓤) (A : Atoms 𝓤) (W : Given
   goes-0 : ent 𝓤 (⋆ 𝓤 H A (‵ ftrue ∷ [])) (Usual-K 𝓤 H A at-mem run .pre (to-0))
   goes-0 = qed W (‵ ftrue ∷ []) ∵ drop ! $ nothing ! $ owned ! usize (Is usize) (uint-makes 𝓤 H A W w64) (workers) _ (refl, workers-is) $ fjoin ! $ nothing ! $ join ! $ frame ! $ done !
 
-  -- the call of search::ends::prepare_to_end
-  abbrev to-1 : (room-ν : ℕ) (room-δ : GName) (room-z : List ℕ) (y1 : ℕ) (y1-is : y1 < 2 ^ 64) (y5 : ℕ) (y5-is : y5 < 2 ^ 64) → EndsPrepareToEnd-K 𝓤 H A at-mem run .Ghost
+  -- the call of ends::prepare_to_end
+  abbrev to-1 : (room-ν : ℕ) (room-δ : GName) (room-z : List ℕ) (y1 : ℕ) (y1-is : y1 < 2 ^ 64) (y5 : ℕ) (y5-is : y5 < 2 ^ 64) → PrepareToEnd-K 𝓤 H A at-mem run .Ghost
   to-1 room-ν room-δ room-z y1 y1-is y5 y5-is = (((room-ν ∷ [], (offsets-κ, (targets-κ, (flags-κ, tt)))), (fullShare, (offsets-q, (targets-q, (flags-q, tt)))), tt, (room-at room-δ room-z, (y1, (offsets, (targets, (flags, (y5, tt)))))), (room-s (length (room-z)) ∷ [], (vint w64 y1 ∷ [], (offsets-s ∷ [], (targets-s ∷ [], (flags-s ∷ [], (vint w64 y5 ∷ [], tt))))))), tt)
 
-  goes-1 : (room-ν : ℕ) (room-δ : GName) (room-z : List ℕ) (y1 : ℕ) (y1-is : y1 < 2 ^ 64) (y5 : ℕ) (y5-is : y5 < 2 ^ 64) → ent 𝓤 (⋆ 𝓤 H A ((((((((‵ (flft (room-ν ∷ []) fullShare) ⊛ ‵ (flft (offsets-κ) offsets-q)) ⊛ ‵ (flft (targets-κ) targets-q)) ⊛ ‵ (flft (flags-κ) flags-q)) ⊛ ‵ (room-own (room-ν ∷ []) room-δ (room-z) (length (room-z)))) ⊛ ‵ (offsets-own)) ⊛ ‵ (targets-own)) ⊛ ‵ (flags-own)) ∷ [])) (EndsPrepareToEnd-K 𝓤 H A at-mem run .pre (to-1 room-ν room-δ room-z y1 y1-is y5 y5-is))
+  goes-1 : (room-ν : ℕ) (room-δ : GName) (room-z : List ℕ) (y1 : ℕ) (y1-is : y1 < 2 ^ 64) (y5 : ℕ) (y5-is : y5 < 2 ^ 64) → ent 𝓤 (⋆ 𝓤 H A ((((((((‵ (flft (room-ν ∷ []) fullShare) ⊛ ‵ (flft (offsets-κ) offsets-q)) ⊛ ‵ (flft (targets-κ) targets-q)) ⊛ ‵ (flft (flags-κ) flags-q)) ⊛ ‵ (room-own (room-ν ∷ []) room-δ (room-z) (length (room-z)))) ⊛ ‵ (offsets-own)) ⊛ ‵ (targets-own)) ⊛ ‵ (flags-own)) ∷ [])) (PrepareToEnd-K 𝓤 H A at-mem run .pre (to-1 room-ν room-δ room-z y1 y1-is y5 y5-is))
   goes-1 room-ν room-δ room-z y1 y1-is y5 y5-is = qed W ((((((((‵ (flft (room-ν ∷ []) fullShare) ⊛ ‵ (flft (offsets-κ) offsets-q)) ⊛ ‵ (flft (targets-κ) targets-q)) ⊛ ‵ (flft (flags-κ) flags-q)) ⊛ ‵ (room-own (room-ν ∷ []) room-δ (room-z) (length (room-z)))) ⊛ ‵ (offsets-own)) ⊛ ‵ (targets-own)) ⊛ ‵ (flags-own)) ∷ []) ∵ split ! $ split ! $ split ! $ split ! $ split ! $ split ! $ split ! $ nothing ! $ owned ! usize (Is usize) (uint-makes 𝓤 H A W w64) (y5) _ (refl, y5-is) $ fjoin ! $ move ! (8 ∷ 0 ∷ []) $ fjoin ! $ move ! (7 ∷ 0 ∷ []) $ fjoin ! $ move ! (6 ∷ 0 ∷ []) $ fjoin ! $ owned ! usize (Is usize) (uint-makes 𝓤 H A W w64) (y1) _ (refl, y1-is) $ fjoin ! $ move ! (5 ∷ 0 ∷ []) $ fjoin ! $ nothing ! $ move ! (5 ∷ 0 ∷ []) $ join ! $ move ! (4 ∷ 0 ∷ []) $ join ! $ move ! (3 ∷ 0 ∷ []) $ join ! $ move ! (2 ∷ 0 ∷ []) $ join ! $ join ! $ frame ! $ done !
 
   -- the call of search::turns::reset
@@ -187,14 +188,14 @@ module _ {M : Type 1} (𝓤 : URA M) (H : Heap 𝓤) (A : Atoms 𝓤) (W : Given
   goes-3 : (room-ν : ℕ) (room-δ : GName) (room-z : List ℕ) (tally-ν : ℕ) (tally-δ : GName) (tally-z : Tally) (y5 : ℕ) (y5-is : y5 < 2 ^ 64) (y6 : Standing) (y6-is : Is Standing-m.the-row y6 (LL.vals Standing-m.the-type Standing-l.the-laws (y6))) → BegunRounds (offsets .now) (targets .now) (flags .now) (y5) (y6) (room-z) (tally-z) → ent 𝓤 (⋆ 𝓤 H A ((((((((((‵ (flft (room-ν ∷ []) fullShare) ⊛ ‵ (flft (tally-ν ∷ []) fullShare)) ⊛ ‵ (flft (offsets-κ) offsets-q)) ⊛ ‵ (flft (targets-κ) targets-q)) ⊛ ‵ (flft (flags-κ) flags-q)) ⊛ ‵ (room-own (room-ν ∷ []) room-δ (room-z) (length (room-z)))) ⊛ ‵ (tally-own (tally-ν ∷ []) tally-δ (tally-z))) ⊛ ‵ (offsets-own)) ⊛ ‵ (targets-own)) ⊛ ‵ (flags-own)) ∷ [])) (TurnsOverRounds-K 𝓤 H A at-mem run .pre (to-3 room-ν room-δ room-z tally-ν tally-δ tally-z y5 y5-is y6 y6-is))
   goes-3 room-ν room-δ room-z tally-ν tally-δ tally-z y5 y5-is y6 y6-is asked = qed W ((((((((((‵ (flft (room-ν ∷ []) fullShare) ⊛ ‵ (flft (tally-ν ∷ []) fullShare)) ⊛ ‵ (flft (offsets-κ) offsets-q)) ⊛ ‵ (flft (targets-κ) targets-q)) ⊛ ‵ (flft (flags-κ) flags-q)) ⊛ ‵ (room-own (room-ν ∷ []) room-δ (room-z) (length (room-z)))) ⊛ ‵ (tally-own (tally-ν ∷ []) tally-δ (tally-z))) ⊛ ‵ (offsets-own)) ⊛ ‵ (targets-own)) ⊛ ‵ (flags-own)) ∷ []) ∵ says ! asked $ split ! $ split ! $ split ! $ split ! $ split ! $ split ! $ split ! $ split ! $ split ! $ nothing ! $ move ! (5 ∷ 0 ∷ []) $ join ! $ move ! (4 ∷ 0 ∷ []) $ join ! $ move ! (3 ∷ 0 ∷ []) $ join ! $ move ! (2 ∷ 0 ∷ []) $ join ! $ move ! (1 ∷ 0 ∷ []) $ join ! $ frame ! $ nothing ! $ owned ! Standing-m.the-row (Is Standing-m.the-row) (LL.makes Standing-m.the-type Standing-l.the-plain 𝓤 H A) (y6) _ (y6-is) $ fjoin ! $ owned ! usize (Is usize) (uint-makes 𝓤 H A W w64) (y5) _ (refl, y5-is) $ fjoin ! $ move ! (5 ∷ 0 ∷ []) $ fjoin ! $ move ! (4 ∷ 0 ∷ []) $ fjoin ! $ move ! (3 ∷ 0 ∷ []) $ fjoin ! $ move ! (2 ∷ 0 ∷ []) $ fjoin ! $ move ! (1 ∷ 0 ∷ []) $ fjoin ! $ done !
 
-  -- the call of search::ends::finish
-  abbrev to-4 : (room-ν : ℕ) (room-δ : GName) (room-z : List ℕ) (lasso-ν : ℕ) (lasso-δ : GName) (lasso-z : List ℕ) (y3 : Standing) (y3-is : Is Standing-m.the-row y3 (LL.vals Standing-m.the-type Standing-l.the-laws (y3))) → EndsFinish-K 𝓤 H A at-mem run .Ghost
+  -- the call of ends::finish
+  abbrev to-4 : (room-ν : ℕ) (room-δ : GName) (room-z : List ℕ) (lasso-ν : ℕ) (lasso-δ : GName) (lasso-z : List ℕ) (y3 : Standing) (y3-is : Is Standing-m.the-row y3 (LL.vals Standing-m.the-type Standing-l.the-laws (y3))) → Finish-K 𝓤 H A at-mem run .Ghost
   to-4 room-ν room-δ room-z lasso-ν lasso-δ lasso-z y3 y3-is = (((room-ν ∷ [], (lasso-ν ∷ [], (flags-κ, tt))), (fullShare, (fullShare, (flags-q, tt))), tt, (room-at room-δ room-z, (lasso-at lasso-δ lasso-z, (flags, (y3, tt)))), (room-s (length (room-z)) ∷ [], (lasso-s (length (lasso-z)) ∷ [], (flags-s ∷ [], (LL.val Standing-m.the-type Standing-l.the-laws (y3) ∷ [], tt))))), tt)
 
-  goes-4 : (room-ν : ℕ) (room-δ : GName) (room-z : List ℕ) (lasso-ν : ℕ) (lasso-δ : GName) (lasso-z : List ℕ) (y3 : Standing) (y3-is : Is Standing-m.the-row y3 (LL.vals Standing-m.the-type Standing-l.the-laws (y3))) → Finishing (length (flags .now)) (y3) (room-z) (lasso-z) → ent 𝓤 (⋆ 𝓤 H A ((((((‵ (flft (room-ν ∷ []) fullShare) ⊛ ‵ (flft (lasso-ν ∷ []) fullShare)) ⊛ ‵ (flft (flags-κ) flags-q)) ⊛ ‵ (room-shown (room-ν ∷ []) room-δ room-z)) ⊛ ‵ (lasso-own (lasso-ν ∷ []) lasso-δ (lasso-z) (length (lasso-z)))) ⊛ ‵ (flags-own)) ∷ [])) (EndsFinish-K 𝓤 H A at-mem run .pre (to-4 room-ν room-δ room-z lasso-ν lasso-δ lasso-z y3 y3-is))
+  goes-4 : (room-ν : ℕ) (room-δ : GName) (room-z : List ℕ) (lasso-ν : ℕ) (lasso-δ : GName) (lasso-z : List ℕ) (y3 : Standing) (y3-is : Is Standing-m.the-row y3 (LL.vals Standing-m.the-type Standing-l.the-laws (y3))) → Finishing (length (flags .now)) (y3) (room-z) (lasso-z) → ent 𝓤 (⋆ 𝓤 H A ((((((‵ (flft (room-ν ∷ []) fullShare) ⊛ ‵ (flft (lasso-ν ∷ []) fullShare)) ⊛ ‵ (flft (flags-κ) flags-q)) ⊛ ‵ (room-shown (room-ν ∷ []) room-δ room-z)) ⊛ ‵ (lasso-own (lasso-ν ∷ []) lasso-δ (lasso-z) (length (lasso-z)))) ⊛ ‵ (flags-own)) ∷ [])) (Finish-K 𝓤 H A at-mem run .pre (to-4 room-ν room-δ room-z lasso-ν lasso-δ lasso-z y3 y3-is))
   goes-4 room-ν room-δ room-z lasso-ν lasso-δ lasso-z y3 y3-is asked = qed W ((((((‵ (flft (room-ν ∷ []) fullShare) ⊛ ‵ (flft (lasso-ν ∷ []) fullShare)) ⊛ ‵ (flft (flags-κ) flags-q)) ⊛ ‵ (room-shown (room-ν ∷ []) room-δ room-z)) ⊛ ‵ (lasso-own (lasso-ν ∷ []) lasso-δ (lasso-z) (length (lasso-z)))) ⊛ ‵ (flags-own)) ∷ []) ∵ says ! asked $ split ! $ split ! $ split ! $ split ! $ split ! $ nothing ! $ move ! (3 ∷ 0 ∷ []) $ join ! $ move ! (2 ∷ 0 ∷ []) $ join ! $ move ! (1 ∷ 0 ∷ []) $ join ! $ frame ! $ nothing ! $ owned ! Standing-m.the-row (Is Standing-m.the-row) (LL.makes Standing-m.the-type Standing-l.the-plain 𝓤 H A) (y3) _ (y3-is) $ fjoin ! $ move ! (3 ∷ 0 ∷ []) $ fjoin ! $ move ! (2 ∷ 0 ∷ []) $ fjoin ! $ move ! (1 ∷ 0 ∷ []) $ fjoin ! $ done !
 
-  module _ (𝓣 : Tables 𝓤 H) (known-limits·usual : Triple 𝓤 (𝓣 .C #limits·usual) (Usual-K 𝓤 H A at-mem run)) (known-search·ends·prepare-to-end : Triple 𝓤 (𝓣 .C #search·ends·prepare-to-end) (EndsPrepareToEnd-K 𝓤 H A at-mem run)) (known-search·turns·reset : Triple 𝓤 (𝓣 .C #search·turns·reset) (TurnsReset-K 𝓤 H A at-mem run)) (known-search·turns·over-rounds : Triple 𝓤 (𝓣 .C #search·turns·over-rounds) (TurnsOverRounds-K 𝓤 H A at-mem run)) (known-search·ends·finish : Triple 𝓤 (𝓣 .C #search·ends·finish) (EndsFinish-K 𝓤 H A at-mem run)) (room-g : Room u16 (length room-xs)) (lasso-g : Room u16 (length lasso-xs)) (offsets-g : Room u16 (length (offsets .now))) (targets-g : Room u16 (length (targets .now))) (flags-g : Room u16 (length (flags .now))) where
+  module _ (𝓣 : Tables 𝓤 H) (known-limits·usual : Triple 𝓤 (𝓣 .C #limits·usual) (Usual-K 𝓤 H A at-mem run)) (known-ends·prepare-to-end : Triple 𝓤 (𝓣 .C #ends·prepare-to-end) (PrepareToEnd-K 𝓤 H A at-mem run)) (known-search·turns·reset : Triple 𝓤 (𝓣 .C #search·turns·reset) (TurnsReset-K 𝓤 H A at-mem run)) (known-search·turns·over-rounds : Triple 𝓤 (𝓣 .C #search·turns·over-rounds) (TurnsOverRounds-K 𝓤 H A at-mem run)) (known-ends·finish : Triple 𝓤 (𝓣 .C #ends·finish) (Finish-K 𝓤 H A at-mem run)) (room-g : Room u16 (length room-xs)) (lasso-g : Room u16 (length lasso-xs)) (offsets-g : Room u16 (length (offsets .now))) (targets-g : Room u16 (length (targets .now))) (flags-g : Room u16 (length (flags .now))) where
     abbrev C : Calls 𝓤 H
     C = 𝓣 .C
 
@@ -211,10 +212,10 @@ module _ {M : Type 1} (𝓤 : URA M) (H : Heap 𝓤) (A : Atoms 𝓤) (W : Given
         calls-at ! (fmOf 𝓤 H (W .laws) 𝓣) (Usual-K 𝓤 H A at-mem run) known-limits·usual (to-0) (and-then ! (load ! (from ! (stop !)) (look ! 45 refl)) (no-more !)) (λ v0. use1 W (later (some (λ (r : ℕ). ((‵ ftrue) ⊛ ‵ (usize .own r (v0 ∷ []))) ⊛ raw (ensured 𝓤 H A usual-c.ended (usual-c.clauses 𝓤 H A at-mem run) tt ((workers, tt)) tt r)))) (id⊢ 𝓤 _) $ await ! tt $ pick ! (λ r0. split ! $ move ! (1 ∷ []) $ use1 W (some (λ (ws : (Unit {0} × Unit {0})). ‵ (lasts usual-c.ended tt ((workers, tt)) ws) ⊛ raw (fact 𝓤 ((r0) ≡ usual (workers))))) (id⊢ 𝓤 _) $ pick ! (λ ws0. split ! $ move ! (1 ∷ []) $ heard ! ((r0) ≡ usual (workers)) (λ e0.
         move ! (1 ∷ []) $ split ! $ move ! (1 ∷ []) $ peeks ! usize (Is usize) (shows 𝓤 H A usize) r0 (v0 ∷ []) (λ is0.
         land ! (from ! (stop !)) (init ! 45 refl (uint-lawful 𝓤 H A W w64 .typed r0 _ is0 .0)) $ rewrite ! 45 (λ (u : Val). ‵ (fat fullShare (tyInt w64) l8 0 u)) (ap only (is0 .0)) refl $ assigns ! (addr ! (from ! (fld ! refl (hop ! (look-in ! 59 (sub ! 0 refl (whole !))) (stop !))))) (from ! (stop !)) (init ! 39 refl (tt, tt)) $ assigns ! (agg ! (and-then ! (load ! (from ! (stop !)) (look ! 39 refl)) (and-then ! (load ! (from ! (fld ! refl (stop !))) (look-in ! 59 (sub ! 1 refl (whole !)))) (no-more !)))) (from ! (stop !)) (init ! 37 refl (tt, (tt, (record { fits = room-g .0 }, tt)))) $ assigns ! (of-opd ! (load ! (from ! (fld ! refl (stop !))) (look-in ! 57 (sub ! 1 refl (whole !))))) (from ! (stop !)) (init ! 35 refl (tt, record { fits = lasso-g .0 })) $
-        -- ends::prepare_to_end
+        -- prepare_to_end
         lft-new ! tt (λ room-ν1. move ! (10 ∷ 17 ∷ []) $ use2 W (later (some (λ (δ : GName). ‵ (room-own (room-ν1 ∷ []) δ (room-xs) (length (room-xs))) ⊛ ‵ (Again.LentAgain u16 room-κ (room-ν1 ∷ []) room-q room-γ room-b room-o δ (room-xs))))) (Again.lends-again u16 room-κ (room-ν1 ∷ []) room-q room-γ room-b room-o 𝓤 H A W (named 0) (named 0) (room-xs)) $ await ! tt $ pick ! (λ room-δ1. split ! $
-        move ! (9 ∷ []) $ use1 W (‵ offsets-own ⊛ ‵ offsets-own) (shr-slice-copy 𝓤 H A W (named 3) offsets-κ u16 .twice offsets (offsets-s ∷ [])) $ split ! $ move ! (10 ∷ []) $ use1 W (‵ targets-own ⊛ ‵ targets-own) (shr-slice-copy 𝓤 H A W (named 4) targets-κ u16 .twice targets (targets-s ∷ [])) $ split ! $ move ! (10 ∷ []) $ use1 W (‵ flags-own ⊛ ‵ flags-own) (shr-slice-copy 𝓤 H A W (named 5) flags-κ u16 .twice flags (flags-s ∷ [])) $ split ! $ move ! (8 ∷ 18 ∷ 17 ∷ 15 ∷ 6 ∷ 4 ∷ 2 ∷ 0 ∷ []) $ join ! $ join ! $ join ! $ join ! $ join ! $ join ! $ join ! $ use1 W (raw (EndsPrepareToEnd-K 𝓤 H A at-mem run .pre (to-1 room-ν1 room-δ1 (room-xs) (length (lasso-xs)) (lasso-g .0) (r0) (is0 .1)))) (goes-1 room-ν1 room-δ1 (room-xs) (length (lasso-xs)) (lasso-g .0) (r0) (is0 .1)) $
-        calls-at ! (fmOf 𝓤 H (W .laws) 𝓣) (EndsPrepareToEnd-K 𝓤 H A at-mem run) known-search·ends·prepare-to-end (to-1 room-ν1 room-δ1 (room-xs) (length (lasso-xs)) (lasso-g .0) (r0) (is0 .1)) (and-then ! (load ! (from ! (stop !)) (look ! 34 refl)) (and-then ! (load ! (from ! (stop !)) (look ! 32 refl)) (and-then ! (load ! (from ! (stop !)) (look ! 50 refl)) (and-then ! (load ! (from ! (stop !)) (look ! 48 refl)) (and-then ! (load ! (from ! (stop !)) (look ! 46 refl)) (and-then ! (load ! (from ! (stop !)) (look ! 42 refl)) (no-more !))))))) (λ v1. use1 W (later (some (λ (r : Standing). ((‵ (flft (room-ν1 ∷ []) fullShare) ⊛ ‵ (flft offsets-κ offsets-q) ⊛ ‵ (flft targets-κ targets-q) ⊛ ‵ (flft flags-κ flags-q) ⊛ ‵ ftrue) ⊛ ‵ (Standing-m.the-row .own r (v1 ∷ []))) ⊛ raw (ensured 𝓤 H A ends-prepare-to-end-c.ended (ends-prepare-to-end-c.clauses 𝓤 H A at-mem run) (room-ν1 ∷ [], (offsets-κ, (targets-κ, (flags-κ, tt)))) ((room-at room-δ1 (room-xs), (length (lasso-xs), (offsets, (targets, (flags, (r0, tt))))))) tt r)))) (id⊢ 𝓤 _) $ await ! tt $ pick ! (λ r1. split ! $ move ! (1 ∷ []) $ use1 W (some (λ (ws : (List ℕ × (Unit {0} × (Unit {0} × (Unit {0} × (Unit {0} × (Unit {0} × Unit {0}))))))). ‵ (lasts ends-prepare-to-end-c.ended (room-ν1 ∷ [], (offsets-κ, (targets-κ, (flags-κ, tt)))) ((room-at room-δ1 (room-xs), (length (lasso-xs), (offsets, (targets, (flags, (r0, tt))))))) ws) ⊛ raw (fact 𝓤 (begun (ws .0) (r1) ≡ begunOn (length (lasso-xs)) (offsets .now) (targets .now) (flags .now) (r0) (room-xs))))) (id⊢ 𝓤 _) $ pick ! (λ ws1. split ! $ move ! (1 ∷ []) $ heard ! (begun (ws1 .0) (r1) ≡ begunOn (length (lasso-xs)) (offsets .now) (targets .now) (flags .now) (r0) (room-xs)) (λ e1.
+        move ! (9 ∷ []) $ use1 W (‵ offsets-own ⊛ ‵ offsets-own) (shr-slice-copy 𝓤 H A W (named 3) offsets-κ u16 .twice offsets (offsets-s ∷ [])) $ split ! $ move ! (10 ∷ []) $ use1 W (‵ targets-own ⊛ ‵ targets-own) (shr-slice-copy 𝓤 H A W (named 4) targets-κ u16 .twice targets (targets-s ∷ [])) $ split ! $ move ! (10 ∷ []) $ use1 W (‵ flags-own ⊛ ‵ flags-own) (shr-slice-copy 𝓤 H A W (named 5) flags-κ u16 .twice flags (flags-s ∷ [])) $ split ! $ move ! (8 ∷ 18 ∷ 17 ∷ 15 ∷ 6 ∷ 4 ∷ 2 ∷ 0 ∷ []) $ join ! $ join ! $ join ! $ join ! $ join ! $ join ! $ join ! $ use1 W (raw (PrepareToEnd-K 𝓤 H A at-mem run .pre (to-1 room-ν1 room-δ1 (room-xs) (length (lasso-xs)) (lasso-g .0) (r0) (is0 .1)))) (goes-1 room-ν1 room-δ1 (room-xs) (length (lasso-xs)) (lasso-g .0) (r0) (is0 .1)) $
+        calls-at ! (fmOf 𝓤 H (W .laws) 𝓣) (PrepareToEnd-K 𝓤 H A at-mem run) known-ends·prepare-to-end (to-1 room-ν1 room-δ1 (room-xs) (length (lasso-xs)) (lasso-g .0) (r0) (is0 .1)) (and-then ! (load ! (from ! (stop !)) (look ! 34 refl)) (and-then ! (load ! (from ! (stop !)) (look ! 32 refl)) (and-then ! (load ! (from ! (stop !)) (look ! 50 refl)) (and-then ! (load ! (from ! (stop !)) (look ! 48 refl)) (and-then ! (load ! (from ! (stop !)) (look ! 46 refl)) (and-then ! (load ! (from ! (stop !)) (look ! 42 refl)) (no-more !))))))) (λ v1. use1 W (later (some (λ (r : Standing). ((‵ (flft (room-ν1 ∷ []) fullShare) ⊛ ‵ (flft offsets-κ offsets-q) ⊛ ‵ (flft targets-κ targets-q) ⊛ ‵ (flft flags-κ flags-q) ⊛ ‵ ftrue) ⊛ ‵ (Standing-m.the-row .own r (v1 ∷ []))) ⊛ raw (ensured 𝓤 H A prepare-to-end-c.ended (prepare-to-end-c.clauses 𝓤 H A at-mem run) (room-ν1 ∷ [], (offsets-κ, (targets-κ, (flags-κ, tt)))) ((room-at room-δ1 (room-xs), (length (lasso-xs), (offsets, (targets, (flags, (r0, tt))))))) tt r)))) (id⊢ 𝓤 _) $ await ! tt $ pick ! (λ r1. split ! $ move ! (1 ∷ []) $ use1 W (some (λ (ws : (List ℕ × (Unit {0} × (Unit {0} × (Unit {0} × (Unit {0} × (Unit {0} × Unit {0}))))))). ‵ (lasts prepare-to-end-c.ended (room-ν1 ∷ [], (offsets-κ, (targets-κ, (flags-κ, tt)))) ((room-at room-δ1 (room-xs), (length (lasso-xs), (offsets, (targets, (flags, (r0, tt))))))) ws) ⊛ raw (fact 𝓤 (begun (ws .0) (r1) ≡ begunOn (length (lasso-xs)) (offsets .now) (targets .now) (flags .now) (r0) (room-xs))))) (id⊢ 𝓤 _) $ pick ! (λ ws1. split ! $ move ! (1 ∷ []) $ heard ! (begun (ws1 .0) (r1) ≡ begunOn (length (lasso-xs)) (offsets .now) (targets .now) (flags .now) (r0) (room-xs)) (λ e1.
         fsplit ! $ fsplit ! $ move ! (1 ∷ []) $ feqL ! (λ room-l1. move ! (2 ∷ []) $ split ! $ move ! (1 ∷ []) $ peeks ! Standing-m.the-row (Is Standing-m.the-row) (shows 𝓤 H A Standing-m.the-row) r1 (v1 ∷ []) (λ is1.
         move ! (1 ∷ []) $ split ! $ move ! (1 ∷ []) $ split ! $ move ! (1 ∷ []) $ split ! $ move ! (1 ∷ []) $ split ! $ move ! (4 ∷ []) $ lft-end ! tt $ move ! (0 ∷ 11 ∷ 6 ∷ []) $ use3 W (later (‵ (room-own room-κ room-γ (ws1 .0) (length (room-xs))) ⊛ ‵ (flft room-κ room-q))) (Again.comes-back u16 room-κ (room-ν1 ∷ []) room-q room-γ room-b room-o 𝓤 H A W (named 0) (named 0) (room-xs) room-δ1 (ws1 .0) (room-g) room-l1) $ await ! tt $ split ! $
         land ! (from ! (stop !)) (init ! 46 refl (LL.lawful Standing-m.the-type Standing-l.the-laws 𝓤 H A W .typed (r1) _ (is1) .0)) $ rewrite ! 46 (λ (u : Val). ‵ (fat fullShare Standing-l.mir l9 0 u)) (ap only (LL.tells Standing-m.the-type Standing-l.the-laws r1 (v1 ∷ []) is1)) refl $ rewrite ! 0 (λ (m : ℕ). ‵ (room-own room-κ room-γ (ws1 .0) m)) (sym room-l1) refl $ rewrite ! 62 (λ (m : ℕ). ‵ (fat fullShare (sliceTy (tyRef (named 0) mut (tyInt w16))) l1 0 (room-s m))) (sym room-l1) refl $ assigns ! (addr ! (from ! (hop ! (look ! 58 refl) (stop !)))) (from ! (stop !)) (init ! 34 refl (tt, tt)) $
@@ -234,11 +235,11 @@ module _ {M : Type 1} (𝓤 : URA M) (H : Heap 𝓤) (A : Atoms 𝓤) (W : Given
         move ! (1 ∷ []) $ split ! $ move ! (1 ∷ []) $ split ! $ move ! (1 ∷ []) $ split ! $ move ! (1 ∷ []) $ split ! $ move ! (1 ∷ []) $ split ! $ move ! (5 ∷ []) $ lft-end ! tt $ move ! (0 ∷ 14 ∷ 9 ∷ []) $ use3 W (later (‵ (room-own room-κ room-γ (ws3 .0) (length (ws1 .0))) ⊛ ‵ (flft room-κ room-q))) (Again.comes-back u16 room-κ (room-ν3 ∷ []) room-q room-γ room-b room-o 𝓤 H A W (named 0) (named 0) (ws1 .0) room-δ3 (ws3 .0) (subst (Room u16) (sym (room-l1)) room-g) room-l3) $ await ! tt $ split ! $
         move ! (6 ∷ []) $ lft-end ! tt $ move ! (0 ∷ 13 ∷ 8 ∷ []) $ use3 W (later (‵ (tally-own tally-κ tally-γ (ws3 .1 .0)) ⊛ ‵ (flft tally-κ tally-q))) (Lend.comes-back 𝓤 H A W Tally-m.the-row (named 2) tally-κ (tally-ν3 ∷ []) tally-q tally-γ tally-b tally-o tally-δ3 (ws2 .0) (ws3 .1 .0)) $ await ! tt $ split ! $
         land ! (from ! (stop !)) (init ! 49 refl (LL.lawful Standing-m.the-type Standing-l.the-laws 𝓤 H A W .typed (r3) _ (is3) .0)) $ rewrite ! 49 (λ (u : Val). ‵ (fat fullShare Standing-l.mir l10 0 u)) (ap only (LL.tells Standing-m.the-type Standing-l.the-laws r3 (v3 ∷ []) is3)) refl $ rewrite ! 2 (λ (m : ℕ). ‵ (room-own room-κ room-γ (ws3 .0) m)) (sym room-l3) refl $ rewrite ! 67 (λ (m : ℕ). ‵ (fat fullShare (sliceTy (tyRef (named 0) mut (tyInt w16))) l1 0 (room-s m))) (sym room-l3) refl $ assigns ! (addr ! (from ! (fld ! refl (hop ! (look-in ! 67 (sub ! 0 refl (whole !))) (stop !))))) (from ! (stop !)) (init ! 31 refl (tt, tt)) $ assigns ! (agg ! (and-then ! (load ! (from ! (stop !)) (look ! 31 refl)) (and-then ! (load ! (from ! (fld ! refl (stop !))) (look-in ! 67 (sub ! 1 refl (whole !)))) (no-more !)))) (from ! (stop !)) (init ! 29 refl (tt, (tt, (record { fits = subst (Room u16) (sym (room-l3 ∙ room-l1)) room-g .0 }, tt)))) $ assigns ! (addr ! (from ! (fld ! refl (hop ! (look-in ! 65 (sub ! 0 refl (whole !))) (stop !))))) (from ! (stop !)) (init ! 27 refl (tt, tt)) $ assigns ! (agg ! (and-then ! (load ! (from ! (stop !)) (look ! 27 refl)) (and-then ! (load ! (from ! (fld ! refl (stop !))) (look-in ! 65 (sub ! 1 refl (whole !)))) (no-more !)))) (from ! (stop !)) (init ! 25 refl (tt, (tt, (record { fits = lasso-g .0 }, tt)))) $
-        -- ends::finish
+        -- finish
         lft-new ! tt (λ room-ν4. move ! (3 ∷ 4 ∷ []) $ use2 W (later (some (λ (δ : GName). ‵ (room-shown (room-ν4 ∷ []) δ (ws3 .0)) ⊛ ‵ (Again.SharedAgain u16 room-κ (room-ν4 ∷ []) room-q room-γ room-b room-o (ws3 .0))))) (Again.shares-again u16 room-κ (room-ν4 ∷ []) room-q room-γ room-b room-o 𝓤 H A W (named 0) (named 0) (ws3 .0)) $ await ! tt $ pick ! (λ room-δ4. split ! $
         lft-new ! tt (λ lasso-ν4. move ! (24 ∷ 26 ∷ []) $ use2 W (later (some (λ (δ : GName). ‵ (lasso-own (lasso-ν4 ∷ []) δ (lasso-xs) (length (lasso-xs))) ⊛ ‵ (Again.LentAgain u16 lasso-κ (lasso-ν4 ∷ []) lasso-q lasso-γ lasso-b lasso-o δ (lasso-xs))))) (Again.lends-again u16 lasso-κ (lasso-ν4 ∷ []) lasso-q lasso-γ lasso-b lasso-o 𝓤 H A W (named 1) (named 1) (lasso-xs)) $ await ! tt $ pick ! (λ lasso-δ4. split ! $
-        move ! (14 ∷ []) $ use1 W (‵ flags-own ⊛ ‵ flags-own) (shr-slice-copy 𝓤 H A W (named 5) flags-κ u16 .twice flags (flags-s ∷ [])) $ split ! $ move ! (7 ∷ 4 ∷ 10 ∷ 5 ∷ 2 ∷ 0 ∷ []) $ join ! $ join ! $ join ! $ join ! $ join ! $ use1 W (raw (EndsFinish-K 𝓤 H A at-mem run .pre (to-4 room-ν4 room-δ4 (ws3 .0) lasso-ν4 lasso-δ4 (lasso-xs) (r3) (Again.retold Standing-m.the-row (LL.vals Standing-m.the-type Standing-l.the-laws) (LL.tells Standing-m.the-type Standing-l.the-laws) r3 (v3 ∷ []) is3)))) (goes-4 room-ν4 room-δ4 (ws3 .0) lasso-ν4 lasso-δ4 (lasso-xs) (r3) (Again.retold Standing-m.the-row (LL.vals Standing-m.the-type Standing-l.the-laws) (LL.tells Standing-m.the-type Standing-l.the-laws) r3 (v3 ∷ []) is3) (laws.end-finishing (offsets .now) (targets .now) (flags .now) (workers) room-xs lasso-xs tally-xs r0 e0 r1 (ws1 .0) (ws2 .0) e1 e2 r3 (ws3 .0) (ws3 .1 .0) e3)) $
-        calls-at ! (fmOf 𝓤 H (W .laws) 𝓣) (EndsFinish-K 𝓤 H A at-mem run) known-search·ends·finish (to-4 room-ν4 room-δ4 (ws3 .0) lasso-ν4 lasso-δ4 (lasso-xs) (r3) (Again.retold Standing-m.the-row (LL.vals Standing-m.the-type Standing-l.the-laws) (LL.tells Standing-m.the-type Standing-l.the-laws) r3 (v3 ∷ []) is3)) (and-then ! (load ! (from ! (stop !)) (look ! 27 refl)) (and-then ! (load ! (from ! (stop !)) (look ! 23 refl)) (and-then ! (load ! (from ! (stop !)) (look ! 55 refl)) (and-then ! (load ! (from ! (stop !)) (look ! 47 refl)) (no-more !))))) (λ v4. use1 W (later (some (λ (r : Outcome). ((‵ (flft (room-ν4 ∷ []) fullShare) ⊛ ‵ (flft (lasso-ν4 ∷ []) fullShare) ⊛ ‵ (flft flags-κ flags-q) ⊛ ‵ ftrue) ⊛ ‵ (Outcome-m.the-row .own r (v4 ∷ []))) ⊛ raw (ensured 𝓤 H A ends-finish-c.ended (ends-finish-c.clauses 𝓤 H A at-mem run) (room-ν4 ∷ [], (lasso-ν4 ∷ [], (flags-κ, tt))) ((room-at room-δ4 (ws3 .0), (lasso-at lasso-δ4 (lasso-xs), (flags, (r3, tt))))) tt r)))) (id⊢ 𝓤 _) $ await ! tt $ pick ! (λ r4. split ! $ move ! (1 ∷ []) $ use1 W (some (λ (ws : (Unit {0} × (List ℕ × (Unit {0} × (Unit {0} × Unit {0}))))). ‵ (lasts ends-finish-c.ended (room-ν4 ∷ [], (lasso-ν4 ∷ [], (flags-κ, tt))) ((room-at room-δ4 (ws3 .0), (lasso-at lasso-δ4 (lasso-xs), (flags, (r3, tt))))) ws) ⊛ raw (fact 𝓤 (((ws .1 .0) ≡ finishedLasso (length (flags .now)) (r3) (ws3 .0) (lasso-xs)) × ((r4) ≡ finishedOutcome (length (flags .now)) (r3) (ws3 .0)))))) (id⊢ 𝓤 _) $ pick ! (λ ws4. split ! $ move ! (1 ∷ []) $ heard ! (((ws4 .1 .0) ≡ finishedLasso (length (flags .now)) (r3) (ws3 .0) (lasso-xs)) × ((r4) ≡ finishedOutcome (length (flags .now)) (r3) (ws3 .0))) (λ e4.
+        move ! (14 ∷ []) $ use1 W (‵ flags-own ⊛ ‵ flags-own) (shr-slice-copy 𝓤 H A W (named 5) flags-κ u16 .twice flags (flags-s ∷ [])) $ split ! $ move ! (7 ∷ 4 ∷ 10 ∷ 5 ∷ 2 ∷ 0 ∷ []) $ join ! $ join ! $ join ! $ join ! $ join ! $ use1 W (raw (Finish-K 𝓤 H A at-mem run .pre (to-4 room-ν4 room-δ4 (ws3 .0) lasso-ν4 lasso-δ4 (lasso-xs) (r3) (Again.retold Standing-m.the-row (LL.vals Standing-m.the-type Standing-l.the-laws) (LL.tells Standing-m.the-type Standing-l.the-laws) r3 (v3 ∷ []) is3)))) (goes-4 room-ν4 room-δ4 (ws3 .0) lasso-ν4 lasso-δ4 (lasso-xs) (r3) (Again.retold Standing-m.the-row (LL.vals Standing-m.the-type Standing-l.the-laws) (LL.tells Standing-m.the-type Standing-l.the-laws) r3 (v3 ∷ []) is3) (laws.end-finishing (offsets .now) (targets .now) (flags .now) (workers) room-xs lasso-xs tally-xs r0 e0 r1 (ws1 .0) (ws2 .0) e1 e2 r3 (ws3 .0) (ws3 .1 .0) e3)) $
+        calls-at ! (fmOf 𝓤 H (W .laws) 𝓣) (Finish-K 𝓤 H A at-mem run) known-ends·finish (to-4 room-ν4 room-δ4 (ws3 .0) lasso-ν4 lasso-δ4 (lasso-xs) (r3) (Again.retold Standing-m.the-row (LL.vals Standing-m.the-type Standing-l.the-laws) (LL.tells Standing-m.the-type Standing-l.the-laws) r3 (v3 ∷ []) is3)) (and-then ! (load ! (from ! (stop !)) (look ! 27 refl)) (and-then ! (load ! (from ! (stop !)) (look ! 23 refl)) (and-then ! (load ! (from ! (stop !)) (look ! 55 refl)) (and-then ! (load ! (from ! (stop !)) (look ! 47 refl)) (no-more !))))) (λ v4. use1 W (later (some (λ (r : Outcome). ((‵ (flft (room-ν4 ∷ []) fullShare) ⊛ ‵ (flft (lasso-ν4 ∷ []) fullShare) ⊛ ‵ (flft flags-κ flags-q) ⊛ ‵ ftrue) ⊛ ‵ (Outcome-m.the-row .own r (v4 ∷ []))) ⊛ raw (ensured 𝓤 H A finish-c.ended (finish-c.clauses 𝓤 H A at-mem run) (room-ν4 ∷ [], (lasso-ν4 ∷ [], (flags-κ, tt))) ((room-at room-δ4 (ws3 .0), (lasso-at lasso-δ4 (lasso-xs), (flags, (r3, tt))))) tt r)))) (id⊢ 𝓤 _) $ await ! tt $ pick ! (λ r4. split ! $ move ! (1 ∷ []) $ use1 W (some (λ (ws : (Unit {0} × (List ℕ × (Unit {0} × (Unit {0} × Unit {0}))))). ‵ (lasts finish-c.ended (room-ν4 ∷ [], (lasso-ν4 ∷ [], (flags-κ, tt))) ((room-at room-δ4 (ws3 .0), (lasso-at lasso-δ4 (lasso-xs), (flags, (r3, tt))))) ws) ⊛ raw (fact 𝓤 (((ws .1 .0) ≡ finishedLasso (length (flags .now)) (r3) (ws3 .0) (lasso-xs)) × ((r4) ≡ finishedOutcome (length (flags .now)) (r3) (ws3 .0)))))) (id⊢ 𝓤 _) $ pick ! (λ ws4. split ! $ move ! (1 ∷ []) $ heard ! (((ws4 .1 .0) ≡ finishedLasso (length (flags .now)) (r3) (ws3 .0) (lasso-xs)) × ((r4) ≡ finishedOutcome (length (flags .now)) (r3) (ws3 .0))) (λ e4.
         fsplit ! $ move ! (1 ∷ []) $ fsplit ! $ fsplit ! $ move ! (1 ∷ []) $ feqL ! (λ lasso-l4. move ! (3 ∷ []) $ split ! $ move ! (1 ∷ []) $ peeks ! Outcome-m.the-row (Is Outcome-m.the-row) (shows 𝓤 H A Outcome-m.the-row) r4 (v4 ∷ []) (λ is4.
         move ! (1 ∷ []) $ split ! $ move ! (1 ∷ []) $ split ! $ move ! (1 ∷ []) $ split ! $ move ! (3 ∷ []) $ lft-end ! tt $ move ! (0 ∷ 10 ∷ []) $ use2 W (later (‵ (room-own room-κ room-γ (ws3 .0) (length (ws3 .0))) ⊛ ‵ (flft room-κ room-q))) (Again.unshared u16 room-κ (room-ν4 ∷ []) room-q room-γ room-b room-o 𝓤 H A W (named 0) (named 0) (ws3 .0) (subst (Room u16) (sym (room-l3 ∙ room-l1)) room-g)) $ await ! tt $ split ! $
         move ! (4 ∷ []) $ lft-end ! tt $ move ! (0 ∷ 10 ∷ 6 ∷ []) $ use3 W (later (‵ (lasso-own lasso-κ lasso-γ (ws4 .1 .0) (length (lasso-xs))) ⊛ ‵ (flft lasso-κ lasso-q))) (Again.comes-back u16 lasso-κ (lasso-ν4 ∷ []) lasso-q lasso-γ lasso-b lasso-o 𝓤 H A W (named 1) (named 1) (lasso-xs) lasso-δ4 (ws4 .1 .0) (lasso-g) lasso-l4) $ await ! tt $ split ! $
@@ -246,15 +247,15 @@ module _ {M : Type 1} (𝓤 : URA M) (H : Heap 𝓤) (A : Atoms 𝓤) (W : Given
         returns ! (look ! 73 refl) $ forget ! 73 refl $ forget ! 71 refl $ forget ! 69 refl $ forget ! 67 refl $ forget ! 65 refl $ forget ! 63 refl $ forget ! 61 refl $ forget ! 59 refl $ forget ! 57 refl $ forget ! 55 refl $ forget ! 53 refl $ forget ! 51 refl $ forget ! 49 refl $ forget ! 47 refl $ forget ! 45 refl $ forget ! 43 refl $ forget ! 41 refl $ forget ! 39 refl $ forget ! 37 refl $ forget ! 35 refl $ forget ! 33 refl $ forget ! 31 refl $ forget ! 29 refl $ move ! (73 ∷ 74 ∷ []) $ free1 ! $ move ! (71 ∷ 72 ∷ []) $ free1 ! $ move ! (69 ∷ 70 ∷ []) $ free1 ! $ move ! (67 ∷ 68 ∷ []) $ free1 ! $ move ! (65 ∷ 66 ∷ []) $ free1 ! $ move ! (63 ∷ 64 ∷ []) $ free1 ! $ move ! (61 ∷ 62 ∷ []) $ free1 ! $ move ! (59 ∷ 60 ∷ []) $ free1 ! $ move ! (57 ∷ 58 ∷ []) $ free1 ! $ move ! (55 ∷ 56 ∷ []) $ free1 ! $ move ! (53 ∷ 54 ∷ []) $ free1 ! $ move ! (51 ∷ 52 ∷ []) $ free1 ! $ move ! (49 ∷ 50 ∷ []) $ free1 ! $ move ! (47 ∷ 48 ∷ []) $ free1 ! $ move ! (45 ∷ 46 ∷ []) $ free1 ! $ move ! (43 ∷ 44 ∷ []) $ free1 ! $ move ! (41 ∷ 42 ∷ []) $ free1 ! $ move ! (39 ∷ 40 ∷ []) $ free1 ! $ move ! (37 ∷ 38 ∷ []) $ free1 ! $ move ! (35 ∷ 36 ∷ []) $ free1 ! $ move ! (33 ∷ 34 ∷ []) $ free1 ! $ move ! (31 ∷ 32 ∷ []) $ free1 ! $ move ! (29 ∷ 30 ∷ []) $ free1 ! $ free0 ! $ keep ! (2 ∷ 3 ∷ 0 ∷ 1 ∷ 10 ∷ 11 ∷ 18 ∷ 14 ∷ 17 ∷ 13 ∷ 9 ∷ 4 ∷ []) $ by ! (exits (ws3 .0) (ws4 .1 .0) (ws3 .1 .0) (r4) (Again.retold Outcome-m.the-row (EL.vals Outcome-m.the-type Outcome-l.the-laws) (EL.tells Outcome-m.the-type Outcome-l.the-laws) r4 (v4 ∷ []) is4) (room-l3 ∙ room-l1) (lasso-l4) (laws.end-left (offsets .now) (targets .now) (flags .now) (workers) room-xs lasso-xs tally-xs r0 e0 r1 (ws1 .0) (ws2 .0) e1 e2 r3 (ws3 .0) (ws3 .1 .0) e3 r4 (ws4 .1 .0) e4)))))))))))))))))))))))))))))))))))))))))))))))))))))))))))))))))
 
 module _ {M : Type 1} (𝓤 : URA M) (H : Heap 𝓤) (A : Atoms 𝓤) (W : Given 𝓤 H A) (at-mem : Memory → SProp 𝓤) (run : Routine → Fun 𝓤) where
-  walks : (𝓣 : Tables 𝓤 H) → Triple 𝓤 (𝓣 .C #limits·usual) (Usual-K 𝓤 H A at-mem run) → Triple 𝓤 (𝓣 .C #search·ends·prepare-to-end) (EndsPrepareToEnd-K 𝓤 H A at-mem run) → Triple 𝓤 (𝓣 .C #search·turns·reset) (TurnsReset-K 𝓤 H A at-mem run) → Triple 𝓤 (𝓣 .C #search·turns·over-rounds) (TurnsOverRounds-K 𝓤 H A at-mem run) → Triple 𝓤 (𝓣 .C #search·ends·finish) (EndsFinish-K 𝓤 H A at-mem run) → Walks 𝓤 H A f.ended stayed (WpFn 𝓤 H (𝓣 .C) (𝓣 .Λ) code.function) (f.clauses 𝓤 H A at-mem run)
-  walks 𝓣 known-limits·usual known-search·ends·prepare-to-end known-search·turns·reset known-search·turns·over-rounds known-search·ends·finish = walked 𝓤 H A f.ended stayed (f.clauses 𝓤 H A at-mem run) (WpFn 𝓤 H (𝓣 .C) (𝓣 .Λ) code.function) (λ κs. (slice-vals, (slice-vals, (ptr-vals, (slice-vals, (slice-vals, (slice-vals, (uint-vals w64, tt)))))))) (λ κs. (mut-slice-tells (named 0) (κs .0) u16, (mut-slice-tells (named 1) (κs .1 .0) u16, (mut-tells (named 2) (κs .1 .1 .0) Tally-m.the-row, (shr-slice-tells (named 3) (κs .1 .1 .1 .0) u16, (shr-slice-tells (named 4) (κs .1 .1 .1 .1 .0) u16, (shr-slice-tells (named 5) (κs .1 .1 .1 .1 .1 .0) u16, (uint-tells w64, tt))))))))
-      (λ κs qs bounds a _ are. via 𝓤 _ (fst∗ 𝓤 _ (emp 𝓤)) (walk 𝓤 H A W at-mem run (κs .0) (qs .0) (κs .1 .0) (qs .1 .0) (κs .1 .1 .0) (qs .1 .1 .0) (κs .1 .1 .1 .0) (qs .1 .1 .1 .0) (κs .1 .1 .1 .1 .0) (qs .1 .1 .1 .1 .0) (κs .1 .1 .1 .1 .1 .0) (qs .1 .1 .1 .1 .1 .0) (a .0 .ptr .0) (a .0 .ptr .1) (a .0 .name) (a .0 .now) (a .1 .0 .ptr .0) (a .1 .0 .ptr .1) (a .1 .0 .name) (a .1 .0 .now) (a .1 .1 .0 .ptr .0) (a .1 .1 .0 .ptr .1) (a .1 .1 .0 .name) (a .1 .1 .0 .now) (a .1 .1 .1 .0) (a .1 .1 .1 .1 .0) (a .1 .1 .1 .1 .1 .0) (a .1 .1 .1 .1 .1 .1 .0) (are .1 .1 .1 .1 .1 .1 .0 .1) 𝓣 known-limits·usual known-search·ends·prepare-to-end known-search·turns·reset known-search·turns·over-rounds known-search·ends·finish (are .0 .0 .1) (are .1 .0 .0 .1) (are .1 .1 .1 .0 .0 .1) (are .1 .1 .1 .1 .0 .0 .1) (are .1 .1 .1 .1 .1 .0 .0 .1)))
+  walks : (𝓣 : Tables 𝓤 H) → Triple 𝓤 (𝓣 .C #limits·usual) (Usual-K 𝓤 H A at-mem run) → Triple 𝓤 (𝓣 .C #ends·prepare-to-end) (PrepareToEnd-K 𝓤 H A at-mem run) → Triple 𝓤 (𝓣 .C #search·turns·reset) (TurnsReset-K 𝓤 H A at-mem run) → Triple 𝓤 (𝓣 .C #search·turns·over-rounds) (TurnsOverRounds-K 𝓤 H A at-mem run) → Triple 𝓤 (𝓣 .C #ends·finish) (Finish-K 𝓤 H A at-mem run) → Walks 𝓤 H A f.ended stayed (WpFn 𝓤 H (𝓣 .C) (𝓣 .Λ) code.function) (f.clauses 𝓤 H A at-mem run)
+  walks 𝓣 known-limits·usual known-ends·prepare-to-end known-search·turns·reset known-search·turns·over-rounds known-ends·finish = walked 𝓤 H A f.ended stayed (f.clauses 𝓤 H A at-mem run) (WpFn 𝓤 H (𝓣 .C) (𝓣 .Λ) code.function) (λ κs. (slice-vals, (slice-vals, (ptr-vals, (slice-vals, (slice-vals, (slice-vals, (uint-vals w64, tt)))))))) (λ κs. (mut-slice-tells (named 0) (κs .0) u16, (mut-slice-tells (named 1) (κs .1 .0) u16, (mut-tells (named 2) (κs .1 .1 .0) Tally-m.the-row, (shr-slice-tells (named 3) (κs .1 .1 .1 .0) u16, (shr-slice-tells (named 4) (κs .1 .1 .1 .1 .0) u16, (shr-slice-tells (named 5) (κs .1 .1 .1 .1 .1 .0) u16, (uint-tells w64, tt))))))))
+      (λ κs qs bounds a _ are. via 𝓤 _ (fst∗ 𝓤 _ (emp 𝓤)) (walk 𝓤 H A W at-mem run (κs .0) (qs .0) (κs .1 .0) (qs .1 .0) (κs .1 .1 .0) (qs .1 .1 .0) (κs .1 .1 .1 .0) (qs .1 .1 .1 .0) (κs .1 .1 .1 .1 .0) (qs .1 .1 .1 .1 .0) (κs .1 .1 .1 .1 .1 .0) (qs .1 .1 .1 .1 .1 .0) (a .0 .ptr .0) (a .0 .ptr .1) (a .0 .name) (a .0 .now) (a .1 .0 .ptr .0) (a .1 .0 .ptr .1) (a .1 .0 .name) (a .1 .0 .now) (a .1 .1 .0 .ptr .0) (a .1 .1 .0 .ptr .1) (a .1 .1 .0 .name) (a .1 .1 .0 .now) (a .1 .1 .1 .0) (a .1 .1 .1 .1 .0) (a .1 .1 .1 .1 .1 .0) (a .1 .1 .1 .1 .1 .1 .0) (are .1 .1 .1 .1 .1 .1 .0 .1) 𝓣 known-limits·usual known-ends·prepare-to-end known-search·turns·reset known-search·turns·over-rounds known-ends·finish (are .0 .0 .1) (are .1 .0 .0 .1) (are .1 .1 .1 .0 .0 .1) (are .1 .1 .1 .1 .0 .0 .1) (are .1 .1 .1 .1 .1 .0 .0 .1)))
 
   all-go : AllGo 𝓤 H A W 6 (f.signature .params) (f.ended .kept) stayed
   all-go = (goes-slice 𝓤 H A W 6 0 tt (plain (λ _. u16)), (goes-slice 𝓤 H A W 6 1 tt (plain (λ _. u16)), (goes-ref 𝓤 H A W 6 2 tt (plain (λ _. Tally-m.the-row)), (goes-none-slice 𝓤 H A W 6 (3 ∷ []) tt (plain (λ _. u16)) yes, (goes-none-slice 𝓤 H A W 6 (4 ∷ []) tt (plain (λ _. u16)) yes, (goes-none-slice 𝓤 H A W 6 (5 ∷ []) tt (plain (λ _. u16)) yes, (goes-none 𝓤 H A W 6 (λ _. usize) yes (λ κs x f. refl), tt)))))))
 
-meets : {M : Type 1} (𝓤 : URA M) (H : Heap 𝓤) (A : Atoms 𝓤) → Given 𝓤 H A → (at-mem : Memory → SProp 𝓤) (run : Routine → Fun 𝓤) (𝓣 : Tables 𝓤 H) → Triple 𝓤 (𝓣 .C #limits·usual) (Usual-K 𝓤 H A at-mem run) → Triple 𝓤 (𝓣 .C #search·ends·prepare-to-end) (EndsPrepareToEnd-K 𝓤 H A at-mem run) → Triple 𝓤 (𝓣 .C #search·turns·reset) (TurnsReset-K 𝓤 H A at-mem run) → Triple 𝓤 (𝓣 .C #search·turns·over-rounds) (TurnsOverRounds-K 𝓤 H A at-mem run) → Triple 𝓤 (𝓣 .C #search·ends·finish) (EndsFinish-K 𝓤 H A at-mem run) → Meets 𝓤 H A f.signature (WpFn 𝓤 H (𝓣 .C) (𝓣 .Λ) code.function) (f.spec 𝓤 H A at-mem run)
-meets 𝓤 H A W at-mem run 𝓣 known-limits·usual known-search·ends·prepare-to-end known-search·turns·reset known-search·turns·over-rounds known-search·ends·finish = walk-meets 𝓤 H A f.ended stayed W (all-go 𝓤 H A W at-mem run) (f.clauses 𝓤 H A at-mem run) (WpFn 𝓤 H (𝓣 .C) (𝓣 .Λ) code.function) (WpFn-mono 𝓤 H (W .laws) 𝓣 code.function) (walks 𝓤 H A W at-mem run 𝓣 known-limits·usual known-search·ends·prepare-to-end known-search·turns·reset known-search·turns·over-rounds known-search·ends·finish)
+meets : {M : Type 1} (𝓤 : URA M) (H : Heap 𝓤) (A : Atoms 𝓤) → Given 𝓤 H A → (at-mem : Memory → SProp 𝓤) (run : Routine → Fun 𝓤) (𝓣 : Tables 𝓤 H) → Triple 𝓤 (𝓣 .C #limits·usual) (Usual-K 𝓤 H A at-mem run) → Triple 𝓤 (𝓣 .C #ends·prepare-to-end) (PrepareToEnd-K 𝓤 H A at-mem run) → Triple 𝓤 (𝓣 .C #search·turns·reset) (TurnsReset-K 𝓤 H A at-mem run) → Triple 𝓤 (𝓣 .C #search·turns·over-rounds) (TurnsOverRounds-K 𝓤 H A at-mem run) → Triple 𝓤 (𝓣 .C #ends·finish) (Finish-K 𝓤 H A at-mem run) → Meets 𝓤 H A f.signature (WpFn 𝓤 H (𝓣 .C) (𝓣 .Λ) code.function) (f.spec 𝓤 H A at-mem run)
+meets 𝓤 H A W at-mem run 𝓣 known-limits·usual known-ends·prepare-to-end known-search·turns·reset known-search·turns·over-rounds known-ends·finish = walk-meets 𝓤 H A f.ended stayed W (all-go 𝓤 H A W at-mem run) (f.clauses 𝓤 H A at-mem run) (WpFn 𝓤 H (𝓣 .C) (𝓣 .Λ) code.function) (WpFn-mono 𝓤 H (W .laws) 𝓣 code.function) (walks 𝓤 H A W at-mem run 𝓣 known-limits·usual known-ends·prepare-to-end known-search·turns·reset known-search·turns·over-rounds known-ends·finish)
 
 pub run-to-end-spec : {M : Type 1} → stated.statement M
 unfolding code.routine tablesOf
@@ -263,7 +264,7 @@ run-to-end-spec 𝓤 H 𝓜 𝓖 𝓡 =
     (tables 𝓤 H 𝓜 𝓡 code.env .C) (tables 𝓤 H 𝓜 𝓡 code.env .Λ) #search·run-to-end code.function (code.unfolded 𝓤 H 𝓜 𝓡)
     (meets 𝓤 H (𝓖 .A) (givenOf 𝓤 H 𝓜 𝓖) (𝓜 .mem) (𝓡 .run) (tablesOf 𝓤 H 𝓜 (tables 𝓤 H 𝓜 𝓡 code.env))
     (cited 𝓤 H (Usual-K 𝓤 H (𝓖 .A) (𝓜 .mem) (𝓡 .run)) 𝓜 𝓡 code.env #limits·usual usual-c-def.routine code.calls-limits·usual (usual-c-thm.met 𝓤 H 𝓜 𝓖 𝓡))
-    (cited 𝓤 H (EndsPrepareToEnd-K 𝓤 H (𝓖 .A) (𝓜 .mem) (𝓡 .run)) 𝓜 𝓡 code.env #search·ends·prepare-to-end ends-prepare-to-end-c-def.routine code.calls-search·ends·prepare-to-end (ends-prepare-to-end-c-thm.met 𝓤 H 𝓜 𝓖 𝓡))
+    (cited 𝓤 H (PrepareToEnd-K 𝓤 H (𝓖 .A) (𝓜 .mem) (𝓡 .run)) 𝓜 𝓡 code.env #ends·prepare-to-end prepare-to-end-c-def.routine code.calls-ends·prepare-to-end (prepare-to-end-c-thm.met 𝓤 H 𝓜 𝓖 𝓡))
     (cited 𝓤 H (TurnsReset-K 𝓤 H (𝓖 .A) (𝓜 .mem) (𝓡 .run)) 𝓜 𝓡 code.env #search·turns·reset turns-reset-c-def.routine code.calls-search·turns·reset (turns-reset-c-thm.met 𝓤 H 𝓜 𝓖 𝓡))
     (cited 𝓤 H (TurnsOverRounds-K 𝓤 H (𝓖 .A) (𝓜 .mem) (𝓡 .run)) 𝓜 𝓡 code.env #search·turns·over-rounds turns-over-rounds-c-def.routine code.calls-search·turns·over-rounds (turns-over-rounds-c-thm.met 𝓤 H 𝓜 𝓖 𝓡))
-    (cited 𝓤 H (EndsFinish-K 𝓤 H (𝓖 .A) (𝓜 .mem) (𝓡 .run)) 𝓜 𝓡 code.env #search·ends·finish ends-finish-c-def.routine code.calls-search·ends·finish (ends-finish-c-thm.met 𝓤 H 𝓜 𝓖 𝓡)))
+    (cited 𝓤 H (Finish-K 𝓤 H (𝓖 .A) (𝓜 .mem) (𝓡 .run)) 𝓜 𝓡 code.env #ends·finish finish-c-def.routine code.calls-ends·finish (finish-c-thm.met 𝓤 H 𝓜 𝓖 𝓡)))

@@ -39,12 +39,12 @@ use Rattle.moves.proofs.Tally.Laws as Tally-l
 use Rattle.steps.specs.declared.Standing.{Standing}
 use Rattle.steps.proofs.Standing as Standing-m
 use Rattle.steps.proofs.Standing.Laws as Standing-l
-use Rattle.search.specs.Ends.{resetOf}
+use Rattle.ends.specs.Ends.{resetOf}
 use Rattle.search.proofs.Again as Again
-use Rattle.search.proofs.ends.reset_of as ends-reset-of-c
-use Rattle.search.proofs.ends.reset_of.Symbol as ends-reset-of-c-def
-use Rattle.search.proofs.ends.reset_of.Symbol.{name as #search·ends·reset-of}
-use Rattle.search.proofs.ends.reset_of.Met as ends-reset-of-c-thm
+use Rattle.ends.proofs.reset_of as reset-of-c
+use Rattle.ends.proofs.reset_of.Symbol as reset-of-c-def
+use Rattle.ends.proofs.reset_of.Symbol.{name as #ends·reset-of}
+use Rattle.ends.proofs.reset_of.Met as reset-of-c-thm
 use Rattle.search.proofs.turns.reset.Key.{name as #search·turns·reset}
 use Rattle.search.proofs.turns.reset as f
 use Rattle.search.proofs.turns.reset.Statement as stated
@@ -54,8 +54,8 @@ abbrev stayed : Stays (f.ended .signature .params) (f.ended .kept)
 stayed = (stay-ref (0 ∷ []) tt (plain (λ _. Tally-m.the-row)), (stay-none (λ _. Standing-m.the-row) yes, tt))
 
 module _ {M : Type 1} (𝓤 : URA M) (H : Heap 𝓤) (A : Atoms 𝓤) (at-mem : Memory → SProp 𝓤) (run : Routine → Fun 𝓤) where
-  abbrev EndsResetOf-K : Contract 𝓤
-  EndsResetOf-K = tripleOf 𝓤 H A ends-reset-of-c.signature (ends-reset-of-c.spec 𝓤 H A at-mem run)
+  abbrev ResetOf-K : Contract 𝓤
+  ResetOf-K = tripleOf 𝓤 H A reset-of-c.signature (reset-of-c.spec 𝓤 H A at-mem run)
 
 module _ {M : Type 1} (𝓤 : URA M) (H : Heap 𝓤) (A : Atoms 𝓤) (W : Given 𝓤 H A) (at-mem : Memory → SProp 𝓤) (run : Routine → Fun 𝓤) (tally-κ : Lft) (tally-q : Share) (tally-b tally-o : ℕ) (tally-γ : GName) (tally-xs : Tally) (s : Standing) (s-is : Is Standing-m.the-row s (LL.vals Standing-m.the-type Standing-l.the-laws (s))) where
   abbrev tally-at : GName → Tally → RefT Tally
@@ -75,14 +75,14 @@ module _ {M : Type 1} (𝓤 : URA M) (H : Heap 𝓤) (A : Atoms 𝓤) (W : Given
       qed W (‵ (tally-own tally-κ tally-γ (tally-z)) ∷ ‵ (flft tally-κ tally-q) ∷ []) ∵ suffices ! _ (ends-at 𝓤 H A f.ended stayed (f.clauses 𝓤 H A at-mem run) W bound (vunit) tt (tally-z, (tt, tt)) (tt, (tt, tt))) $ says ! e $
       nothing ! $ move ! (2 ∷ 0 ∷ []) $ join ! $ frame ! $ nothing ! $ owned ! Standing-m.the-row (Is Standing-m.the-row) (LL.makes Standing-m.the-type Standing-l.the-plain 𝓤 H A) (s) _ (s-is) $ fjoin ! $ move ! (1 ∷ 0 ∷ []) $ fjoin ! $ feqI ! (List Val) (vunit ∷ []) (vunit ∷ []) refl $ move ! (1 ∷ 0 ∷ []) $ done !
 
-  -- the call of search::ends::reset_of
-  abbrev to-0 : (y0 : Tally) (y0-is : Is Tally-m.the-row y0 (LL.vals Tally-m.the-type Tally-l.the-laws (y0))) → EndsResetOf-K 𝓤 H A at-mem run .Ghost
+  -- the call of ends::reset_of
+  abbrev to-0 : (y0 : Tally) (y0-is : Is Tally-m.the-row y0 (LL.vals Tally-m.the-type Tally-l.the-laws (y0))) → ResetOf-K 𝓤 H A at-mem run .Ghost
   to-0 y0 y0-is = ((tt, tt, tt, (y0, (s, tt)), (LL.val Tally-m.the-type Tally-l.the-laws (y0) ∷ [], (LL.val Standing-m.the-type Standing-l.the-laws (s) ∷ [], tt))), tt)
 
-  goes-0 : (y0 : Tally) (y0-is : Is Tally-m.the-row y0 (LL.vals Tally-m.the-type Tally-l.the-laws (y0))) → ent 𝓤 (⋆ 𝓤 H A (‵ ftrue ∷ [])) (EndsResetOf-K 𝓤 H A at-mem run .pre (to-0 y0 y0-is))
+  goes-0 : (y0 : Tally) (y0-is : Is Tally-m.the-row y0 (LL.vals Tally-m.the-type Tally-l.the-laws (y0))) → ent 𝓤 (⋆ 𝓤 H A (‵ ftrue ∷ [])) (ResetOf-K 𝓤 H A at-mem run .pre (to-0 y0 y0-is))
   goes-0 y0 y0-is = qed W (‵ ftrue ∷ []) ∵ drop ! $ nothing ! $ owned ! Standing-m.the-row (Is Standing-m.the-row) (LL.makes Standing-m.the-type Standing-l.the-plain 𝓤 H A) (s) _ (s-is) $ fjoin ! $ owned ! Tally-m.the-row (Is Tally-m.the-row) (LL.makes Tally-m.the-type Tally-l.the-plain 𝓤 H A) (y0) _ (y0-is) $ fjoin ! $ nothing ! $ join ! $ frame ! $ done !
 
-  module _ (𝓣 : Tables 𝓤 H) (known-search·ends·reset-of : Triple 𝓤 (𝓣 .C #search·ends·reset-of) (EndsResetOf-K 𝓤 H A at-mem run)) where
+  module _ (𝓣 : Tables 𝓤 H) (known-ends·reset-of : Triple 𝓤 (𝓣 .C #ends·reset-of) (ResetOf-K 𝓤 H A at-mem run)) where
     abbrev C : Calls 𝓤 H
     C = 𝓣 .C
 
@@ -95,24 +95,24 @@ module _ {M : Type 1} (𝓤 : URA M) (H : Heap 𝓤) (A : Atoms 𝓤) (W : Given
         alloc1 ! (λ l0. alloc1 ! (λ l1. alloc1 ! (λ l2. alloc1 ! (λ l3. alloc1 ! (λ l4. alloc0 ! $ params1 ! $ pass1 ! (init ! 6 refl (tt, tt)) $ pass1 ! (init ! 4 refl (LL.lawful Standing-m.the-type Standing-l.the-laws 𝓤 H A W .typed (s) _ (s-is) .0)) $ pass0 ! $
         move ! (10 ∷ []) $ split ! $ move ! (12 ∷ []) $ fsplit ! $ fsplit3 ! $ drop ! $ move ! (0 ∷ 1 ∷ 3 ∷ []) $
         opens ! tt Tally-m.the-row {h = tally-xs} tally-b tally-o (λ vs. spelt ! Tally-m.the-row (Is Tally-m.the-row) (shows 𝓤 H A Tally-m.the-row) (LL.vals Tally-m.the-type Tally-l.the-laws) (LL.tells Tally-m.the-type Tally-l.the-laws) fullShare tally-xs vs tally-b tally-o $ move ! (1 ∷ []) $ peeks ! Tally-m.the-row (Is Tally-m.the-row) (shows 𝓤 H A Tally-m.the-row) tally-xs (LL.vals Tally-m.the-type Tally-l.the-laws (tally-xs)) (λ was. assigns ! (of-opd ! (load ! (from ! (hop ! (look ! 13 refl) (stop !))) (look-raw ! 1 refl))) (from ! (stop !)) (init ! 7 refl (LL.lawful Tally-m.the-type Tally-l.the-laws 𝓤 H A W .typed (tally-xs) _ (was) .0)) $
-        -- ends::reset_of
-        nothing ! $ use1 W (raw (EndsResetOf-K 𝓤 H A at-mem run .pre (to-0 (tally-xs) (was)))) (goes-0 (tally-xs) (was)) $
-        calls-at ! (fmOf 𝓤 H (W .laws) 𝓣) (EndsResetOf-K 𝓤 H A at-mem run) known-search·ends·reset-of (to-0 (tally-xs) (was)) (and-then ! (load ! (from ! (stop !)) (look ! 8 refl)) (and-then ! (load ! (from ! (stop !)) (look ! 12 refl)) (no-more !))) (λ v0. use1 W (later (some (λ (r : Tally). ((‵ ftrue) ⊛ ‵ (Tally-m.the-row .own r (v0 ∷ []))) ⊛ raw (ensured 𝓤 H A ends-reset-of-c.ended (ends-reset-of-c.clauses 𝓤 H A at-mem run) tt ((tally-xs, (s, tt))) tt r)))) (id⊢ 𝓤 _) $ await ! tt $ pick ! (λ r0. split ! $ move ! (1 ∷ []) $ use1 W (some (λ (ws : (Unit {0} × (Unit {0} × Unit {0}))). ‵ (lasts ends-reset-of-c.ended tt ((tally-xs, (s, tt))) ws) ⊛ raw (fact 𝓤 ((r0) ≡ resetOf (tally-xs) (s))))) (id⊢ 𝓤 _) $ pick ! (λ ws0. split ! $ move ! (1 ∷ []) $ heard ! ((r0) ≡ resetOf (tally-xs) (s)) (λ e0.
+        -- reset_of
+        nothing ! $ use1 W (raw (ResetOf-K 𝓤 H A at-mem run .pre (to-0 (tally-xs) (was)))) (goes-0 (tally-xs) (was)) $
+        calls-at ! (fmOf 𝓤 H (W .laws) 𝓣) (ResetOf-K 𝓤 H A at-mem run) known-ends·reset-of (to-0 (tally-xs) (was)) (and-then ! (load ! (from ! (stop !)) (look ! 8 refl)) (and-then ! (load ! (from ! (stop !)) (look ! 12 refl)) (no-more !))) (λ v0. use1 W (later (some (λ (r : Tally). ((‵ ftrue) ⊛ ‵ (Tally-m.the-row .own r (v0 ∷ []))) ⊛ raw (ensured 𝓤 H A reset-of-c.ended (reset-of-c.clauses 𝓤 H A at-mem run) tt ((tally-xs, (s, tt))) tt r)))) (id⊢ 𝓤 _) $ await ! tt $ pick ! (λ r0. split ! $ move ! (1 ∷ []) $ use1 W (some (λ (ws : (Unit {0} × (Unit {0} × Unit {0}))). ‵ (lasts reset-of-c.ended tt ((tally-xs, (s, tt))) ws) ⊛ raw (fact 𝓤 ((r0) ≡ resetOf (tally-xs) (s))))) (id⊢ 𝓤 _) $ pick ! (λ ws0. split ! $ move ! (1 ∷ []) $ heard ! ((r0) ≡ resetOf (tally-xs) (s)) (λ e0.
         move ! (1 ∷ []) $ split ! $ move ! (1 ∷ []) $ peeks ! Tally-m.the-row (Is Tally-m.the-row) (shows 𝓤 H A Tally-m.the-row) r0 (v0 ∷ []) (λ is0.
         land ! (from ! (stop !)) (init ! 12 refl (LL.lawful Tally-m.the-type Tally-l.the-laws 𝓤 H A W .typed (r0) _ (is0) .0)) $ rewrite ! 12 (λ (u : Val). ‵ (fat fullShare Tally-l.mir l3 0 u)) (ap only (LL.tells Tally-m.the-type Tally-l.the-laws r0 (v0 ∷ []) is0)) refl $
         assigns ! (of-opd ! (load ! (from ! (stop !)) (look ! 12 refl))) (from ! (hop ! (look ! 16 refl) (stop !))) (store-raw ! 4 refl (LL.lawful Tally-m.the-type Tally-l.the-laws 𝓤 H A W .typed (r0) _ (Again.retold Tally-m.the-row (LL.vals Tally-m.the-type Tally-l.the-laws) (LL.tells Tally-m.the-type Tally-l.the-laws) r0 (v0 ∷ []) is0) .0)) $ assigns ! (of-opd ! (unit-lit !)) (from ! (stop !)) (init ! 18 refl (tt, tt)) $ owned ! Tally-m.the-row (Is Tally-m.the-row) (LL.makes Tally-m.the-type Tally-l.the-plain 𝓤 H A) (r0) _ (Again.retold Tally-m.the-row (LL.vals Tally-m.the-type Tally-l.the-laws) (LL.tells Tally-m.the-type Tally-l.the-laws) r0 (v0 ∷ []) is0) $ move ! (5 ∷ 0 ∷ 6 ∷ 7 ∷ 8 ∷ []) $ closes ! tt Tally-m.the-row (r0) (LL.vals Tally-m.the-type Tally-l.the-laws (r0)) tally-b tally-o $ move ! (2 ∷ []) $ move ! (1 ∷ 2 ∷ []) $ feqI ! (List Val) (vptr tally-b tally-o ∷ []) (vptr tally-b tally-o ∷ []) refl $ fjoin3 ! $
         returns ! (look ! 16 refl) $ forget ! 16 refl $ forget ! 14 refl $ forget ! 12 refl $ forget ! 10 refl $ forget ! 8 refl $ move ! (16 ∷ 17 ∷ []) $ free1 ! $ move ! (14 ∷ 15 ∷ []) $ free1 ! $ move ! (12 ∷ 13 ∷ []) $ free1 ! $ move ! (10 ∷ 11 ∷ []) $ free1 ! $ move ! (8 ∷ 9 ∷ []) $ free1 ! $ free0 ! $ keep ! (0 ∷ 1 ∷ []) $ by ! (exits (r0) e0)))))))))))))
 
 module _ {M : Type 1} (𝓤 : URA M) (H : Heap 𝓤) (A : Atoms 𝓤) (W : Given 𝓤 H A) (at-mem : Memory → SProp 𝓤) (run : Routine → Fun 𝓤) where
-  walks : (𝓣 : Tables 𝓤 H) → Triple 𝓤 (𝓣 .C #search·ends·reset-of) (EndsResetOf-K 𝓤 H A at-mem run) → Walks 𝓤 H A f.ended stayed (WpFn 𝓤 H (𝓣 .C) (𝓣 .Λ) code.function) (f.clauses 𝓤 H A at-mem run)
-  walks 𝓣 known-search·ends·reset-of = walked 𝓤 H A f.ended stayed (f.clauses 𝓤 H A at-mem run) (WpFn 𝓤 H (𝓣 .C) (𝓣 .Λ) code.function) (λ κs. (ptr-vals, (LL.vals Standing-m.the-type Standing-l.the-laws, tt))) (λ κs. (mut-tells (named 0) (κs .0) Tally-m.the-row, (LL.tells Standing-m.the-type Standing-l.the-laws, tt)))
-      (λ κs qs bounds a _ are. via 𝓤 _ (fst∗ 𝓤 _ (emp 𝓤)) (walk 𝓤 H A W at-mem run (κs .0) (qs .0) (a .0 .ptr .0) (a .0 .ptr .1) (a .0 .name) (a .0 .now) (a .1 .0) (are .1 .0) 𝓣 known-search·ends·reset-of))
+  walks : (𝓣 : Tables 𝓤 H) → Triple 𝓤 (𝓣 .C #ends·reset-of) (ResetOf-K 𝓤 H A at-mem run) → Walks 𝓤 H A f.ended stayed (WpFn 𝓤 H (𝓣 .C) (𝓣 .Λ) code.function) (f.clauses 𝓤 H A at-mem run)
+  walks 𝓣 known-ends·reset-of = walked 𝓤 H A f.ended stayed (f.clauses 𝓤 H A at-mem run) (WpFn 𝓤 H (𝓣 .C) (𝓣 .Λ) code.function) (λ κs. (ptr-vals, (LL.vals Standing-m.the-type Standing-l.the-laws, tt))) (λ κs. (mut-tells (named 0) (κs .0) Tally-m.the-row, (LL.tells Standing-m.the-type Standing-l.the-laws, tt)))
+      (λ κs qs bounds a _ are. via 𝓤 _ (fst∗ 𝓤 _ (emp 𝓤)) (walk 𝓤 H A W at-mem run (κs .0) (qs .0) (a .0 .ptr .0) (a .0 .ptr .1) (a .0 .name) (a .0 .now) (a .1 .0) (are .1 .0) 𝓣 known-ends·reset-of))
 
   all-go : AllGo 𝓤 H A W 1 (f.signature .params) (f.ended .kept) stayed
   all-go = (goes-ref 𝓤 H A W 1 0 tt (plain (λ _. Tally-m.the-row)), (goes-none 𝓤 H A W 1 (λ _. Standing-m.the-row) yes (λ κs x f. refl), tt))
 
-meets : {M : Type 1} (𝓤 : URA M) (H : Heap 𝓤) (A : Atoms 𝓤) → Given 𝓤 H A → (at-mem : Memory → SProp 𝓤) (run : Routine → Fun 𝓤) (𝓣 : Tables 𝓤 H) → Triple 𝓤 (𝓣 .C #search·ends·reset-of) (EndsResetOf-K 𝓤 H A at-mem run) → Meets 𝓤 H A f.signature (WpFn 𝓤 H (𝓣 .C) (𝓣 .Λ) code.function) (f.spec 𝓤 H A at-mem run)
-meets 𝓤 H A W at-mem run 𝓣 known-search·ends·reset-of = walk-meets 𝓤 H A f.ended stayed W (all-go 𝓤 H A W at-mem run) (f.clauses 𝓤 H A at-mem run) (WpFn 𝓤 H (𝓣 .C) (𝓣 .Λ) code.function) (WpFn-mono 𝓤 H (W .laws) 𝓣 code.function) (walks 𝓤 H A W at-mem run 𝓣 known-search·ends·reset-of)
+meets : {M : Type 1} (𝓤 : URA M) (H : Heap 𝓤) (A : Atoms 𝓤) → Given 𝓤 H A → (at-mem : Memory → SProp 𝓤) (run : Routine → Fun 𝓤) (𝓣 : Tables 𝓤 H) → Triple 𝓤 (𝓣 .C #ends·reset-of) (ResetOf-K 𝓤 H A at-mem run) → Meets 𝓤 H A f.signature (WpFn 𝓤 H (𝓣 .C) (𝓣 .Λ) code.function) (f.spec 𝓤 H A at-mem run)
+meets 𝓤 H A W at-mem run 𝓣 known-ends·reset-of = walk-meets 𝓤 H A f.ended stayed W (all-go 𝓤 H A W at-mem run) (f.clauses 𝓤 H A at-mem run) (WpFn 𝓤 H (𝓣 .C) (𝓣 .Λ) code.function) (WpFn-mono 𝓤 H (W .laws) 𝓣 code.function) (walks 𝓤 H A W at-mem run 𝓣 known-ends·reset-of)
 
 pub reset-spec : {M : Type 1} → stated.statement M
 unfolding code.routine tablesOf
@@ -120,4 +120,4 @@ reset-spec 𝓤 H 𝓜 𝓖 𝓡 =
     entered 𝓤 H (tripleOf 𝓤 H (𝓖 .A) f.signature (f.spec 𝓤 H (𝓖 .A) (𝓜 .mem) (𝓡 .run)))
     (tables 𝓤 H 𝓜 𝓡 code.env .C) (tables 𝓤 H 𝓜 𝓡 code.env .Λ) #search·turns·reset code.function (code.unfolded 𝓤 H 𝓜 𝓡)
     (meets 𝓤 H (𝓖 .A) (givenOf 𝓤 H 𝓜 𝓖) (𝓜 .mem) (𝓡 .run) (tablesOf 𝓤 H 𝓜 (tables 𝓤 H 𝓜 𝓡 code.env))
-    (cited 𝓤 H (EndsResetOf-K 𝓤 H (𝓖 .A) (𝓜 .mem) (𝓡 .run)) 𝓜 𝓡 code.env #search·ends·reset-of ends-reset-of-c-def.routine code.calls-search·ends·reset-of (ends-reset-of-c-thm.met 𝓤 H 𝓜 𝓖 𝓡)))
+    (cited 𝓤 H (ResetOf-K 𝓤 H (𝓖 .A) (𝓜 .mem) (𝓡 .run)) 𝓜 𝓡 code.env #ends·reset-of reset-of-c-def.routine code.calls-ends·reset-of (reset-of-c-thm.met 𝓤 H 𝓜 𝓖 𝓡)))

@@ -5,9 +5,9 @@ use native.Mathlib.Omega.{arith}
 use lib.ListN.{length, length-take, length-drop}
 use borrow.Author.Needs.{needs}
 use Rattle.moves.specs.Room.{stretch, stretchAt}
-use Rattle.search.proofs.Stacked.{Bounds, stacked-inside, stacked-bounds, stacked-stem, stacked-shows}
-use Rattle.search.proofs.lasso.show.Statement.{statement}
-use Rattle.search.proofs.lasso.show.Tie as tie
+use Rattle.ends.proofs.Stacked.{Bounds, stacked-inside, stacked-bounds, stacked-stem, stacked-shows}
+use Rattle.ends.proofs.lasso.show.Statement.{statement}
+use Rattle.ends.proofs.lasso.show.Tie as tie
 
 -- what the code has read
 inside : (c : tie.After-wide)

@@ -1,6 +1,7 @@
 // The two ends of a run: before the first move the refusals and the starting state, after the last one what the run tells.
-use crate::Outcome;
-use crate::lasso::show;
+mod lasso;
+
+use lasso::show;
 use limits::refusal;
 use limits::refusal_to_end;
 use limits::room_size;
@@ -13,7 +14,20 @@ use words::clear;
 ghost use mathlib.Core.Path.{_≡_};
 ghost use lib.ListN.{length};
 ghost use Rattle.moves.specs.Tally.{zeroes};
-ghost use Rattle.search.specs.Ends.{begun, begunIn, begunOn, Finishing, resetOf, refusedBy, finishedLasso, finishedOutcome};
+ghost use Rattle.ends.specs.Ends.{begun, begunIn, begunOn, Finishing, resetOf, refusedBy, finishedLasso, finishedOutcome};
+
+// What a run came to: an answer, with the turns used, or a refusal, in the order of 01's numbers 9 to 13.
+pub enum Outcome {
+    // the lengths of stem and loop, and the turns used
+    Cycle(usize, usize, usize),
+    None(usize),
+    Undecided(usize),
+    NoWorkers,
+    NoGraph,
+    RoomShort,
+    LassoShort,
+    NoSuchWorker,
+}
 
 // Sets the needed words to the starting state, unless the run is refused.
 pub fn prepare(

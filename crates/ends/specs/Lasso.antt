@@ -5,8 +5,8 @@ use mathlib.Core.List.{List, _++_}
 use lib.Dec.{eqb}
 use lib.ListN.{length, getD, take, drop}
 use Rattle.moves.specs.Room.{stretch}
-use Rattle.search.specs.declared.Outcome.{Outcome}
-use Rattle.search.specs.declared.Outcome.the-variants.{Cycle}
+use Rattle.ends.specs.declared.Outcome.{Outcome}
+use Rattle.ends.specs.declared.Outcome.the-variants.{Cycle}
 
 -- the depths of the two stacks, and their words, bottom first
 abbrev pub outerDepth : ℕ → ℕ → List ℕ → ℕ

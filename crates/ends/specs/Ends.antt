@@ -7,13 +7,13 @@ use lib.ListN.{length, drop, replicate}
 use Rattle.moves.specs.declared.Tally.{Tally}
 use Rattle.moves.specs.Tally.{zeroes}
 use Rattle.moves.specs.Room.{roomSize, stretchAt}
-use Rattle.search.specs.declared.Outcome.{Outcome}
-use Rattle.search.specs.declared.Outcome.the-variants.{None, Undecided, NoWorkers, NoGraph, RoomShort, LassoShort, NoSuchWorker}
+use Rattle.ends.specs.declared.Outcome.{Outcome}
+use Rattle.ends.specs.declared.Outcome.the-variants.{None, Undecided, NoWorkers, NoGraph, RoomShort, LassoShort, NoSuchWorker}
 use Rattle.steps.specs.declared.Stop.{Stop}
 use Rattle.steps.specs.declared.Stop.the-variants.{Open, Quiet, Found, Refused}
 use Rattle.steps.specs.declared.Standing.{Standing}
 use Rattle.limits.specs.Refusals.{refusalOf}
-use Rattle.search.specs.Lasso.{Stacked, lassoIn, foundIn}
+use Rattle.ends.specs.Lasso.{Stacked, lassoIn, foundIn}
 use Rattle.steps.specs.Standing.{stopped, standingIn, standingOn}
 
 -- the room and the standing before the first move

@@ -3,9 +3,9 @@ use Prim.Native.Nat.{_-_, _≤_}
 use mathlib.Core.Path.{_≡_}
 use lib.ListN.{length, take, length-set}
 use borrow.Author.Needs.{needs}
-use Rattle.search.proofs.Copied.{copied-more, copied-all}
-use Rattle.search.proofs.lasso.copy.Statement.{statement}
-use Rattle.search.proofs.lasso.copy.Tie as tie
+use Rattle.ends.proofs.Copied.{copied-more, copied-all}
+use Rattle.ends.proofs.lasso.copy.Statement.{statement}
+use Rattle.ends.proofs.lasso.copy.Tie as tie
 
 abbrev Inv-loop : tie.InvT-loop
 Inv-loop to₀ from i₀ to i = (take i to ≡ take i from) × (i ≤ length from) × (length to ≡ length from)

@@ -1,8 +1,8 @@
 -- `refused` meets its contract: each arm is the test of `refusedBy` for its number.
 use borrow.Author.Tests.{ne-eqb}
-use Rattle.search.specs.Ends.{refusedBy}
-use Rattle.search.proofs.ends.refused.Statement.{statement}
-use Rattle.search.proofs.ends.refused.Tie as tie
+use Rattle.ends.specs.Ends.{refusedBy}
+use Rattle.ends.proofs.refused.Statement.{statement}
+use Rattle.ends.proofs.refused.Tie as tie
 
 returns : tie.Need-returns
 unfolding refusedBy

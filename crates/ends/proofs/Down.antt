@@ -12,7 +12,7 @@ use native.Mathlib.Omega.{arith}
 use borrow.Author.Tests.{eq-eqb, ne-eqb}
 use Rattle.graphs.proofs.Tests.{cond-ind, same?}
 use Rattle.moves.specs.Run.{below}
-use Rattle.search.specs.Lasso.{placeDown}
+use Rattle.ends.specs.Lasso.{placeDown}
 
 pub place-here : (i x : ℕ) (l : List ℕ) → 0 < i → getD l (i - 1) 0 ≡ x → placeDown i x l ≡ i - 1
 unfolding placeDown

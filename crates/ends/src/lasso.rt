@@ -4,7 +4,7 @@ use words::wide;
 ghost use mathlib.Core.Path.{_≡_};
 ghost use lib.ListN.{length};
 ghost use Rattle.moves.specs.Room.{stretchAt};
-ghost use Rattle.search.specs.Lasso.{Stacked, placeDown, lassoIn, foundIn};
+ghost use Rattle.ends.specs.Lasso.{Stacked, placeDown, lassoIn, foundIn};
 
 fn copy(to: &mut [u16], from: &[u16])
     requires { ⌜ length (now to) ≡ length (now from) ⌝ }

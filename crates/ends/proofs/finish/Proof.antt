@@ -1,8 +1,8 @@
 -- `finish` meets its contract: each arm is the clause of `finishedLasso` and `finishedOutcome` for its stop.
 use mathlib.Core.Path.{refl}
 use borrow.Author.Needs.{needs}
-use Rattle.search.proofs.ends.finish.Statement.{statement}
-use Rattle.search.proofs.ends.finish.Tie as tie
+use Rattle.ends.proofs.finish.Statement.{statement}
+use Rattle.ends.proofs.finish.Tie as tie
 
 enum-told : tie.Need-enum-told
 enum-told c = search needs

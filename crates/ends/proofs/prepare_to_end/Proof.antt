@@ -1,10 +1,10 @@
 -- `prepare_to_end` meets its contract: where nothing is refused, the room has the words that are set to 0.
 use borrow.Author.Needs.{needs}
 use borrow.Author.Tests.{ne-eqb}
-use Rattle.search.specs.Ends.{begunOn}
-use Rattle.search.proofs.Begun.{begun-small, begun-fits, begun-counts, begun-is}
-use Rattle.search.proofs.ends.prepare_to_end.Statement.{statement}
-use Rattle.search.proofs.ends.prepare_to_end.Tie as tie
+use Rattle.ends.specs.Ends.{begunOn}
+use Rattle.ends.proofs.Begun.{begun-small, begun-fits, begun-counts, begun-is}
+use Rattle.ends.proofs.prepare_to_end.Statement.{statement}
+use Rattle.ends.proofs.prepare_to_end.Tie as tie
 
 refusal-to-end-requires : tie.Need-refusal-to-end-requires
 refusal-to-end-requires c κs = search needs

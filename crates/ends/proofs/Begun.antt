@@ -10,7 +10,7 @@ use Rattle.graphs.proofs.Words.{words-are}
 use Rattle.moves.specs.Room.{roomSize}
 use Rattle.steps.specs.declared.Standing.{Standing}
 use Rattle.limits.specs.Refusals.{most-workers, refusalOf}
-use Rattle.search.specs.Ends.{begun, begunBy}
+use Rattle.ends.specs.Ends.{begun, begunBy}
 use Rattle.limits.proofs.Refused.{Fine, fine}
 
 module _ {number : ℕ} (l : List ℕ) (lasso : ℕ) (turns offsets targets flags : List ℕ) (P : ℕ)

@@ -12,9 +12,9 @@ use Rattle.moves.specs.Machine.{Worker, Machine}
 use Rattle.moves.specs.Room.{pile, span, stretch, stretchAt}
 use Rattle.moves.specs.Run.{cycle, below, downTo, stemOf, loopOf}
 use Rattle.moves.proofs.Words.{Seen, own-word, outer-at, inner-at, last-at, long}
-use Rattle.search.specs.Outcomes.{told, tellsOf, shown}
-use Rattle.search.specs.Lasso.{Stacked, outerDepth, innerDepth, outerWords, innerWords, placeDown, lassoIn, foundIn}
-use Rattle.search.proofs.Down.{place-below}
+use Rattle.ends.specs.Told.{told, tellsOf, shown}
+use Rattle.ends.specs.Lasso.{Stacked, outerDepth, innerDepth, outerWords, innerWords, placeDown, lassoIn, foundIn}
+use Rattle.ends.proofs.Down.{place-below}
 
 -- the part of a stack from its top down to c, and the part below c, are all of it
 pub parted : (c : ℕ) (l : List ℕ) → downTo c l ++ below c l ≡ l

@@ -1,10 +1,10 @@
 -- `prepare` meets its contract: where nothing is refused, the room has the words that are set to 0.
 use borrow.Author.Needs.{needs}
 use borrow.Author.Tests.{ne-eqb}
-use Rattle.search.specs.Ends.{begunIn}
-use Rattle.search.proofs.Begun.{begun-small, begun-fits, begun-counts, begun-is}
-use Rattle.search.proofs.ends.prepare.Statement.{statement}
-use Rattle.search.proofs.ends.prepare.Tie as tie
+use Rattle.ends.specs.Ends.{begunIn}
+use Rattle.ends.proofs.Begun.{begun-small, begun-fits, begun-counts, begun-is}
+use Rattle.ends.proofs.prepare.Statement.{statement}
+use Rattle.ends.proofs.prepare.Tie as tie
 
 refusal-requires : tie.Need-refusal-requires
 refusal-requires c κs = search needs

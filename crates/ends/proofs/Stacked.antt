@@ -9,9 +9,9 @@ use native.Mathlib.Nat.{add-sub-cancel-left}
 use native.Mathlib.Omega.{arith}
 use borrow.Rule.Slice.PartMut.{putMid}
 use Rattle.moves.specs.Room.{stretch, stretchAt}
-use Rattle.search.specs.declared.Outcome.the-variants.{Cycle}
-use Rattle.search.specs.Lasso.{Stacked, outerDepth, innerDepth, placeDown, lassoIn, foundIn}
-use Rattle.search.proofs.Down.{place-in}
+use Rattle.ends.specs.declared.Outcome.the-variants.{Cycle}
+use Rattle.ends.specs.Lasso.{Stacked, outerDepth, innerDepth, placeDown, lassoIn, foundIn}
+use Rattle.ends.proofs.Down.{place-in}
 
 pub record Bounds (n w outer inner : ℕ) (l lasso : List ℕ) : Type 0 where
   pub few : n ≤ 4096

@@ -4,8 +4,8 @@ use mathlib.Core.Path.{_≡_}
 use mathlib.Core.Logic.{_⊎_, inl, inr, _≢_}
 use native.Mathlib.Omega.{arith}
 use Rattle.graphs.proofs.Tests.{same?}
-use Rattle.search.specs.Outcomes.{told, told-refusal}
-use Rattle.search.specs.Ends.{refusedBy}
+use Rattle.ends.specs.Told.{told, told-refusal}
+use Rattle.ends.specs.Ends.{refusedBy}
 
 pub refused-told : (k : ℕ) → 9 ≤ k → k ≤ 13 → told (refusedBy k) ≡ told-refusal k 0
 unfolding refusedBy

@@ -4,10 +4,10 @@ use mathlib.Core.Path.{_≡_, refl, sym, _∙_}
 use native.Mathlib.Omega.{arith}
 use lib.ListN.{length}
 use borrow.Author.Needs.{needs}
-use Rattle.search.specs.Lasso.{placeDown}
-use Rattle.search.proofs.Down.{place-here, place-lower}
-use Rattle.search.proofs.lasso.place_down.Statement.{statement}
-use Rattle.search.proofs.lasso.place_down.Tie as tie
+use Rattle.ends.specs.Lasso.{placeDown}
+use Rattle.ends.proofs.Down.{place-here, place-lower}
+use Rattle.ends.proofs.lasso.place_down.Statement.{statement}
+use Rattle.ends.proofs.lasso.place_down.Tie as tie
 
 abbrev Inv-loop : tie.InvT-loop
 Inv-loop words x i₀ i = (i ≤ length words) × (placeDown (length words) x words ≡ placeDown i x words)
