@@ -7,3 +7,4 @@ pub mod Opened
 pub mod Whole
 pub mod Runs
 pub mod Again
+pub mod Promises
