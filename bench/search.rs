@@ -1,5 +1,5 @@
 // The run to the end, ours and a plain one with the same rules and layout, on lists without a marked loop: search ours|plain LIST WORKERS, or
-// search time. A list is `few`, `half` or `all`: how many of the states are marked.
+// search time, which also compares the rooms and the tallies. A list is `few`, `half` or `all`: how many of its states are marked.
 use std::env;
 use std::time::Instant;
 
@@ -12,30 +12,20 @@ struct Tally {
     moves: u64,
 }
 
-#[repr(C)]
-#[derive(Clone, Copy, PartialEq, Debug)]
-struct RunAnswer {
-    refusal: u32,
-    answer: u32,
-    stem: u32,
-    round: u32,
-    used: u64,
-}
-
-#[link(name = "skiffplank_c", kind = "static")]
+#[link(name = "search_c", kind = "static")]
 extern "C" {
-    fn skiffplank_run_to_end(
-        room: *mut u16, room_len: usize, lasso: *mut u16, lasso_len: usize, tally: *mut Tally, offsets: *const u16, offsets_len: usize,
-        targets: *const u16, targets_len: usize, flags: *const u16, flags_len: usize, workers: u64,
-    ) -> RunAnswer;
+    fn search_c_run_to_end(
+        room: *mut u16, room_len: usize, lasso: *mut u16, lasso_len: usize, offsets: *const u16, offsets_len: usize, targets: *const u16,
+        targets_len: usize, flags: *const u16, flags_len: usize, workers: usize,
+    ) -> Tally;
 }
 
 #[inline(never)]
-fn our_run_to_end(room: &mut [u16], lasso: &mut [u16], tally: &mut Tally, offsets: &[u16], targets: &[u16], flags: &[u16], workers: usize) -> RunAnswer {
+fn our_run_to_end(room: &mut [u16], lasso: &mut [u16], offsets: &[u16], targets: &[u16], flags: &[u16], workers: usize) -> Tally {
     unsafe {
-        skiffplank_run_to_end(
-            room.as_mut_ptr(), room.len(), lasso.as_mut_ptr(), lasso.len(), tally, offsets.as_ptr(), offsets.len(), targets.as_ptr(), targets.len(),
-            flags.as_ptr(), flags.len(), workers as u64,
+        search_c_run_to_end(
+            room.as_mut_ptr(), room.len(), lasso.as_mut_ptr(), lasso.len(), offsets.as_ptr(), offsets.len(), targets.as_ptr(), targets.len(),
+            flags.as_ptr(), flags.len(), workers,
         )
     }
 }
@@ -197,40 +187,30 @@ impl Run<'_> {
 }
 
 #[inline(never)]
-fn plain_run_to_end(room: &mut [u16], lasso: &mut [u16], tally: &mut Tally, offsets: &[u16], targets: &[u16], flags: &[u16], workers: usize) -> RunAnswer {
-    let refused = |refusal| RunAnswer { refusal, answer: 0, stem: 0, round: 0, used: 0 };
+fn plain_run_to_end(room: &mut [u16], lasso: &mut [u16], offsets: &[u16], targets: &[u16], flags: &[u16], workers: usize) -> Tally {
+    let mut tally = Tally::default();
     let workers = if workers == 0 { 2 } else { workers };
     let n = flags.len();
-    if workers > 8 {
-        return refused(9);
-    }
-    if !plain_is_graph(offsets, targets, flags) {
-        return refused(10);
+    if workers > 8 || !plain_is_graph(offsets, targets, flags) {
+        return tally;
     }
     let need = 2 * n + workers * (5 * n + 4);
-    if room.len() < need {
-        return refused(11);
-    }
-    if lasso.len() < 2 * n {
-        return refused(12);
+    if room.len() < need || lasso.len() < 2 * n {
+        return tally;
     }
     room[..need].fill(0);
-    *tally = Tally::default();
     let mut run = Run { room, offsets, targets, flags, n, workers };
-    let mut used = 0;
     loop {
         for p in 0..workers {
-            used += 1;
-            if let Some(x) = run.turn(tally, p) {
+            if run.turn(&mut tally, p).is_some() {
                 let a = run.stretch(p);
                 let (outer, inner) = (run.room[a + 5 * n + 2] as usize, run.room[a + 5 * n + 3] as usize);
                 lasso[..outer].copy_from_slice(&run.room[a + 2 * n..a + 2 * n + outer]);
                 lasso[outer..outer + inner - 1].copy_from_slice(&run.room[a + 3 * n + 1..a + 3 * n + inner]);
-                let stem = lasso[..outer].iter().position(|&y| y == x).unwrap_or(0);
-                return RunAnswer { refusal: 0, answer: 1, stem: stem as u32, round: (outer + inner - 1 - stem) as u32, used };
+                return tally;
             }
             if run.all_done() {
-                return RunAnswer { refusal: 0, answer: 2, stem: 0, round: 0, used };
+                return tally;
             }
         }
     }
@@ -279,7 +259,6 @@ fn main() {
     let n = 4096;
     let mut room = vec![7u16; 2 * n + 8 * (5 * n + 4)];
     let mut lasso = vec![7u16; 2 * n];
-    let mut tally = Tally::default();
     if args[1] == "time" {
         for marks in ["few", "half", "all"] {
             let (offsets, targets, flags) = list(marks);
@@ -287,17 +266,18 @@ fn main() {
                 let (mut ours, mut plain) = (vec![], vec![]);
                 for _ in 0..11 {
                     let at = Instant::now();
-                    let r = our_run_to_end(&mut room, &mut lasso, &mut tally, &offsets, &targets, &flags, workers);
+                    let ours_tally = our_run_to_end(&mut room, &mut lasso, &offsets, &targets, &flags, workers);
                     ours.push(at.elapsed());
-                    let (t, words) = (tally, room.clone());
+                    let words = room.clone();
                     let at = Instant::now();
-                    let q = plain_run_to_end(&mut room, &mut lasso, &mut tally, &offsets, &targets, &flags, workers);
+                    let plain_tally = plain_run_to_end(&mut room, &mut lasso, &offsets, &targets, &flags, workers);
                     plain.push(at.elapsed());
-                    assert!(r == q && t == tally && words == room);
+                    assert!(ours_tally == plain_tally && words == room && lasso.iter().all(|&w| w == 7));
                 }
                 ours.sort();
                 plain.sort();
-                println!("{} marked, P = {}: {:?}, plain Rust {:?}, ratio {:.2}", marks, workers, ours[5], plain[5], ours[5].as_secs_f64() / plain[5].as_secs_f64());
+                let ratio = ours[5].as_secs_f64() / plain[5].as_secs_f64();
+                println!("run_to_end, {} marked, P = {}: {:?}, plain Rust {:?}, ratio of times {:.2}", marks, workers, ours[5], plain[5], ratio);
             }
         }
         return;
@@ -305,6 +285,5 @@ fn main() {
     let (offsets, targets, flags) = list(&args[2]);
     let workers = args[3].parse().unwrap();
     let run = if args[1] == "ours" { our_run_to_end } else { plain_run_to_end };
-    let r = run(&mut room, &mut lasso, &mut tally, &offsets, &targets, &flags, workers);
-    eprintln!("{:?} {:?}", r, tally);
+    run(&mut room, &mut lasso, &offsets, &targets, &flags, workers);
 }

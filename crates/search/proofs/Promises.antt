@@ -86,7 +86,7 @@ end-call offsets targets flags workers l lasso t r l′ lasso′ t′ is =
     }
 
 module _ {offsets targets flags turns : List ℕ} {P number : ℕ} {l lasso : List ℕ} {t : Tally} {r : Outcome} {l′ lasso′ : List ℕ} {t′ : Tally}
-  (call : Call offsets targets flags turns P number l lasso t r l′ lasso′ t′) where
+    (call : Call offsets targets flags turns P number l lasso t r l′ lasso′ t′) where
   abbrev g : Graph
   g = graphOf offsets targets flags
 
@@ -169,8 +169,12 @@ module _ {offsets targets flags turns : List ℕ} {P number : ℕ} {l lasso : Li
             let stem-long : length xs ≡ stem = cc in
             let loop-long : length ys ≡ loop = cc in
             let words : lasso′ ≡ xs ++ (ys ++ drop (length (xs ++ ys)) lasso) = lasso-is ∙ ap (λ a. shown a lasso) q ∙ append-assoc xs ys _ in
-            rw (words, take-at xs (ys ++ drop (length (xs ++ ys)) lasso) stem stem-long, drop-at xs (ys ++ drop (length (xs ++ ys)) lasso) stem stem-long,
-              take-at ys (drop (length (xs ++ ys)) lasso) loop loop-long)
+            rw (
+              words,
+              take-at xs (ys ++ drop (length (xs ++ ys)) lasso) stem stem-long,
+              drop-at xs (ys ++ drop (length (xs ++ ys)) lasso) stem stem-long,
+              take-at ys (drop (length (xs ++ ys)) lasso) loop loop-long,
+            )
             (cycle-is-lasso g P sound some turns named xs ys q)
         go none q = let z = ap wordNumber (sym (tells-is ∙ ap (λ a. tellsOf a (end .used)) q) ∙ e) in absurd (omega (arith, z))
         go undecided q = let z = ap wordNumber (sym (tells-is ∙ ap (λ a. tellsOf a (end .used)) q) ∙ e) in absurd (omega (arith, z))

@@ -29,7 +29,7 @@ use Rattle.turn.specs.Turn.{Formed, Turned}
 use Rattle.turn.proofs.Given.{Given, seen, fits-of, shallow-after}
 use Rattle.steps.specs.declared.Stop.{Stop}
 use Rattle.steps.specs.declared.Stop.the-variants.{Open, Quiet}
-use Rattle.steps.specs.Verdict.{answerOf, allDoneIn, quietIn, verdictIn}
+use Rattle.steps.specs.Verdict.{answerOf, allDoneIn, quietIn, verdictIn, quietStop, stopTo}
 use Rattle.steps.specs.declared.played.Played.{Played}
 use Rattle.steps.specs.Standing.{Finds, Held, PlayedOn}
 
@@ -44,6 +44,28 @@ kind-done (Inner z) = refl
 kind-done (Waiting z) = refl
 kind-done Done = refl
 
+-- the answer that a stop stands for is the machine's
+quiet-stands : (P : ℕ) (m : Machine) → answerOf m (quietStop P m) ≡ quiet P m
+quiet-stands P m = go (allDone P m)
+  where
+    go : (b : Bool) → answerOf m (cond b Quiet Open) ≡ cond b none undecided
+    go true = refl
+    go false = refl
+
+stop-stands : (P p : ℕ) (m : Machine) (made : Move) → answerOf m (stopTo P p m made) ≡ answerTo P p m made
+stop-stands P p m Start = quiet-stands P m
+stop-stands P p m (Skip s) = quiet-stands P m
+stop-stands P p m (Enter s x) = quiet-stands P m
+stop-stands P p m (Leave s) = quiet-stands P m
+stop-stands P p m (Seed s) = quiet-stands P m
+stop-stands P p m (Hit s x) = refl
+stop-stands P p m (Pass s) = quiet-stands P m
+stop-stands P p m (Join s x) = quiet-stands P m
+stop-stands P p m (Back z s) = quiet-stands P m
+stop-stands P p m (Paint z) = quiet-stands P m
+stop-stands P p m Wait = quiet-stands P m
+stop-stands P p m Rest = quiet-stands P m
+
 module _ (n P : ℕ) (m : Machine) (rest l : List ℕ) (seen : Seen n P m rest l) where
   all-done-is : allDoneIn n P l ≡ allDone P m
   unfolding allDoneIn allDone
@@ -54,15 +76,11 @@ module _ (n P : ℕ) (m : Machine) (rest l : List ℕ) (seen : Seen n P m rest l
       let word = own-word n P q h m rest l seen (5 * n + 0) (omega arith) ∙ last-at n (m .worker q) (seen .fits q h) 0 in
       rw (at, word) (kind-done (m .worker q .place)))
 
-  quiet-is : answerOf m (quietIn n P l) ≡ quiet P m
+  quiet-is : quietIn n P l ≡ quietStop P m
   unfolding quietIn
-  quiet-is = rw all-done-is (go (allDone P m))
-    where
-      go : (b : Bool) → answerOf m (cond b Quiet Open) ≡ cond b none undecided
-      go true = refl
-      go false = refl
+  quiet-is = rw all-done-is
 
-  pub verdict-is : (p : ℕ) (made : Move) → answerOf m (verdictIn n P p made l) ≡ answerTo P p m made
+  pub verdict-is : (p : ℕ) (made : Move) → verdictIn n P p made l ≡ stopTo P p m made
   verdict-is p Start = quiet-is
   verdict-is p (Skip s) = quiet-is
   verdict-is p (Enter s x) = quiet-is
@@ -117,10 +135,12 @@ module _ {offsets targets flags : List ℕ} {P p : ℕ} {m : Machine} {rest l : 
     pub played-on : b .stop ≡ verdictIn (length flags) P p (b .made) l′ → PlayedOn offsets targets flags P p m rest l′ b
     played-on e =
         let stop : b .stop ≡ verdictIn (length flags) P p (made .move) l′ = e ∙ ap (λ v. verdictIn (length flags) P p v l′) (turned .move) in
+        let brings = stop ∙ verdict-is (length flags) P (made .machine) rest l′ seen-after p (made .move) in
         record {
           made = turned .move;
+          stop = brings;
           form = turned .room′;
-          answer = sym (verdict-is (length flags) P (made .machine) rest l′ seen-after p (made .move)) ∙ ap (answerOf (made .machine)) (sym stop);
+          answer = sym (ap (answerOf (made .machine)) brings ∙ stop-stands P p (made .machine) (made .move));
           finds =
               rw stop
               (verdict-finds (graphOf offsets targets flags) (length flags) P p m rest l′ made

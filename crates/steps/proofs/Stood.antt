@@ -157,8 +157,12 @@ module _ {offsets targets flags turns : List ℕ} {P : ℕ} {rest : List ℕ} {s
         let used = standing-used turns (s .used + 1) (b .stop) in
         let stood = stood-at {turns = turns} rest (x .held) (x .named) (x .few) (s .used + 1) (b .stop) l′ (omega (arith, turn-left))
         (rw one-turn (omega (arith, x .used))) (rw one-turn (played .answer)) (rw one-turn (played .finds)) (rw one-turn (played .form)) in
+        let stop = standing-stop turns (s .used + 1) (b .stop) in
+        let more = add-one (s .used) in
         record {
-          one-more = rw standing (used ∙ add-one (s .used));
+          made = made ∙ played .made;
+          stop = rw (standing, stop, made, played .made, ← more, one-turn) (played .stop);
+          one-more = rw standing (used ∙ more);
           stood = rw standing stood;
           tally = λ t e. rw (standing, used, one-turn, made, played .made, e);
         }

@@ -21,7 +21,7 @@ use Rattle.steps.specs.declared.Standing.{Standing}
 use Rattle.steps.specs.declared.Moved.{Moved}
 use Rattle.steps.specs.declared.played.Played.{Played}
 use Rattle.limits.specs.Refusals.{most-workers}
-use Rattle.steps.specs.Verdict.{answerOf, isOpen}
+use Rattle.steps.specs.Verdict.{answerOf, isOpen, stopTo}
 
 -- One turn. At a find the inner stack holds the seed, of a worker below P.
 
@@ -50,6 +50,7 @@ pub record PlayedOn (offsets targets flags : List ℕ) (P p : ℕ) (m : Machine)
   pub answer : answerTo P p (turn (graphOf offsets targets flags) p m .machine) (turn (graphOf offsets targets flags) p m .move)
       ≡ answerOf (turn (graphOf offsets targets flags) p m .machine) (r .stop)
   pub finds : Finds P (turn (graphOf offsets targets flags) p m .machine) (r .stop)
+  pub stop : r .stop ≡ stopTo P p (turn (graphOf offsets targets flags) p m .machine) (turn (graphOf offsets targets flags) p m .move)
 
 abbrev pub Plays : (offsets targets flags : List ℕ) (P p : ℕ) (l l′ : List ℕ) (r : Played) → Type 0
 Plays offsets targets flags P p l l′ r =
@@ -102,7 +103,9 @@ pub record Ready (offsets targets flags turns : List ℕ) (P : ℕ) (s : Standin
   pub stood : Stood offsets targets flags turns P rest s l
 
 pub record MovedOn (offsets targets flags turns : List ℕ) (P : ℕ) (rest : List ℕ) (s : Standing) (l′ : List ℕ) (r : Moved) : Type 0 where
+  pub made : r .made ≡ turn (graphOf offsets targets flags) (s .next) (after offsets targets flags turns P (s .used) .machine) .move
   pub one-more : r .standing .used ≡ suc (s .used)
+  pub stop : r .standing .stop ≡ stopTo P (s .next) (after offsets targets flags turns P (suc (s .used)) .machine) (r .made)
   pub stood : Stood offsets targets flags turns P rest (r .standing) l′
   pub tally : (t : Tally) → TallyOf offsets targets flags turns P s t → TallyOf offsets targets flags turns P (r .standing) (raised t (r .made))
 

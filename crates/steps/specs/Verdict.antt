@@ -9,7 +9,7 @@ use Rattle.moves.specs.declared.Move.{Move}
 use Rattle.moves.specs.declared.Move.the-variants.{Start, Skip, Enter, Leave, Seed, Hit, Pass, Join, Back, Paint, Wait, Rest}
 use Rattle.moves.specs.Machine.{Machine}
 use Rattle.moves.specs.Room.{stretchAt}
-use Rattle.moves.specs.Run.{Answer, cycle, none, undecided, stemOf, loopOf}
+use Rattle.moves.specs.Run.{Answer, cycle, none, undecided, stemOf, loopOf, allDone}
 use Rattle.steps.specs.declared.Stop.{Stop}
 use Rattle.steps.specs.declared.Stop.the-variants.{Open, Quiet, Found, Refused}
 
@@ -46,3 +46,21 @@ verdictIn n P p (Back z s) l = quietIn n P l
 verdictIn n P p (Paint z) l = quietIn n P l
 verdictIn n P p Wait l = quietIn n P l
 verdictIn n P p Rest l = quietIn n P l
+
+-- the same of a machine
+abbrev pub quietStop : ℕ → Machine → Stop
+quietStop P m = cond (allDone P m) Quiet Open
+
+abbrev pub stopTo : ℕ → ℕ → Machine → Move → Stop
+stopTo P p m Start = quietStop P m
+stopTo P p m (Skip s) = quietStop P m
+stopTo P p m (Enter s x) = quietStop P m
+stopTo P p m (Leave s) = quietStop P m
+stopTo P p m (Seed s) = quietStop P m
+stopTo P p m (Hit s x) = Found p x
+stopTo P p m (Pass s) = quietStop P m
+stopTo P p m (Join s x) = quietStop P m
+stopTo P p m (Back z s) = quietStop P m
+stopTo P p m (Paint z) = quietStop P m
+stopTo P p m Wait = quietStop P m
+stopTo P p m Rest = quietStop P m

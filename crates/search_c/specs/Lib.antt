@@ -1,0 +1,2 @@
+-- The counts of a run as four words.
+pub mod Counts
