@@ -12,7 +12,8 @@ use native.Mathlib.Numerals.{add-one}
 use borrow.Author.Tests.{leb-true, ltb-true, eqb-true, le-leb, lt-ltb, eq-eqb, not-true}
 use Rattle.graphs.specs.Lists.{Mem, Once, sum, repeats}
 use Rattle.graphs.specs.Graph.{graph, edges, Sound}
-use Rattle.graphs.specs.Words.{successors, marked, graphOf, most-states, most-transitions, sizesFit, offsetsSpan, neverFalling, allBelow, noneTwice, isGraph}
+use Rattle.graphs.specs.Words.{successors, marked, graphOf, most-states, most-transitions, sizesFit, offsetsSpan, neverFalling, allBelow}
+use Rattle.graphs.specs.Words.{noneTwice, isGraph}
 use Rattle.graphs.proofs.Tests.{and-cases, same?}
 use Rattle.graphs.proofs.Member.{mem-take, mem-drop, mem-place}
 use Rattle.graphs.proofs.Every.{every-at, every-of}

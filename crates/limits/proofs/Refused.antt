@@ -3,7 +3,7 @@ use Prim.Native.Nat.{ℕ, _*_, _<_, _≤_}
 use mathlib.Core.Path.{_≡_, refl}
 use mathlib.Core.Bool.{Bool, true, false, cond, not}
 use mathlib.Core.List.{List, []}
-use mathlib.Core.Logic.{_⊎_, inl, inr, _≢_}
+use mathlib.Core.Logic.{_⊎_, inl, inr}
 use lib.Dec.{eqb}
 use lib.ListN.{length}
 use native.Mathlib.Omega.{arith}
@@ -12,7 +12,7 @@ use Rattle.graphs.specs.Lists.{all}
 use Rattle.graphs.specs.Words.{isGraph}
 use Rattle.graphs.proofs.Member.{mem-place}
 use Rattle.graphs.proofs.Same.{all-at}
-use Rattle.graphs.proofs.Tests.{and-cases, same?}
+use Rattle.graphs.proofs.Tests.{and-cases}
 use Rattle.moves.specs.Room.{roomSize}
 use Rattle.theory.specs.Turns.{Named}
 use Rattle.limits.specs.Refusals.{most-workers, workersFit, roomFits, lassoFits, turnsFit, refusalOf}

@@ -3,7 +3,6 @@ use graphs::is_graph;
 ghost use mathlib.Core.Path.{_≡_};
 ghost use mathlib.Core.List.{[]};
 ghost use Prim.Native.Nat.{_≤_};
-ghost use lib.ListN.{length};
 ghost use Rattle.moves.specs.Room.{roomSize};
 ghost use Rattle.limits.specs.Refusals.{most-workers, workersFit, turnsFit, refusalOf, usual};
 

@@ -45,7 +45,8 @@ pub fn outer_move(
     p: usize,
     depth: u16,
 ) -> Move
-    requires { ⌜ Inside (now offsets) (now targets) (now flags) a (now room) × Topped (length (now flags)) (a + 2 * length (now flags)) depth (now room) ⌝ }
+    requires { ⌜ Inside (now offsets) (now targets) (now flags) a (now room)
+        × Topped (length (now flags)) (a + 2 * length (now flags)) depth (now room) ⌝ }
     ensures { λ r. ⌜ r ≡ outerMove (now (offsets .entry)) (now (targets .entry)) (now (flags .entry)) a p depth (now (room .entry)) ⌝ }
 {
     let n = flags.len();
@@ -85,7 +86,8 @@ pub fn inner_move(
     depth: u16,
     z: u16,
 ) -> Move
-    requires { ⌜ Inside (now offsets) (now targets) (now flags) a (now room) × Topped (length (now flags)) (a + 3 * length (now flags)) depth (now room) ⌝ }
+    requires { ⌜ Inside (now offsets) (now targets) (now flags) a (now room)
+        × Topped (length (now flags)) (a + 3 * length (now flags)) depth (now room) ⌝ }
     ensures { λ r. ⌜ r ≡ innerMove (now (offsets .entry)) (now (targets .entry)) (now (flags .entry)) a p depth z (now (room .entry)) ⌝ }
 {
     let n = flags.len();

@@ -2,10 +2,8 @@
 -- `forms-differ` say it of machines of n states and P workers; `room-long` says how many words there are.
 use Prim.Native.Nat.{ℕ, zero, suc, _+_, _*_, _<_, _≤_}
 use mathlib.Core.Path.{_≡_, refl, sym, _∙_}
-use mathlib.Core.Bool.{cond}
 use mathlib.Core.List.{List, _++_}
 use mathlib.Core.Logic.{_⊎_, inl, inr, _≢_}
-use lib.Dec.{eqb}
 use lib.ListN.{length, length-append}
 use native.Mathlib.Nat.{suc-mul}
 use native.Mathlib.Omega.{arith}
@@ -13,7 +11,8 @@ use Rattle.graphs.proofs.Tests.{same?}
 use Rattle.moves.specs.declared.Place.{Place}
 use Rattle.moves.specs.declared.Place.the-variants.{Fresh, Outer, Inner, Waiting, Done}
 use Rattle.moves.specs.Machine.{Worker, Machine}
-use Rattle.moves.specs.Room.{bits, pile, kindWord, seedWord, placeOf, span, stretch, spans, room, roomSize, Fits, AllFit, SameWorker, SameBelow}
+use Rattle.moves.specs.Room.{bits, pile, kindWord, seedWord, placeOf, span, stretch, spans, room, roomSize, Fits, AllFit, SameWorker}
+use Rattle.moves.specs.Room.{SameBelow}
 use Rattle.moves.proofs.Joined.{split}
 use Rattle.graphs.specs.Lists.{tab}
 use Rattle.graphs.proofs.Tab.{tab-long, tab-ext, tab-same}

@@ -1,13 +1,12 @@
 -- What stands at a word of a stretch and of the room, and what a store there makes of the machine. `Seen` says that a list begins with the form
 -- of a machine of n states and P workers; its words beyond the form are `rest`.
-use Prim.Native.Nat.{ℕ, suc, _+_, _-_, _*_, _<_, _≤_}
-use mathlib.Core.Path.{_≡_, refl, sym, ap, subst, _∙_}
+use Prim.Native.Nat.{ℕ, suc, _+_, _-_, _*_, _<_}
+use mathlib.Core.Path.{_≡_, refl, ap, subst, _∙_}
 use mathlib.Core.Bool.{Bool, true, false}
 use mathlib.Core.List.{List, [], _∷_, _++_, append-assoc, reverse, reverse-cons}
 use lib.Dec.{eqb}
-use lib.ListN.{length, getD, set, take, drop, replicate, length-append, length-reverse, List·getD-append}
-use lib.Seq.{getD-append-add, getD-at, take-at, drop-at, set-append-left, length-take-le}
-use native.Mathlib.Nat.{suc-mul, mul-le-mul-right}
+use lib.ListN.{length, getD, set, take, drop, length-append, length-reverse, List·getD-append}
+use lib.Seq.{getD-append-add, getD-at, take-at, drop-at, set-append-left}
 use native.Mathlib.Omega.{arith}
 use Rattle.graphs.specs.Lists.{upd, tab}
 use Rattle.graphs.proofs.Tab.{tab-long, tab-word}
@@ -164,13 +163,16 @@ module _ (n P p : ℕ) (h : p < P) (m : Machine) (rest l : List ℕ) (seen : See
   cut = seen .form ∙ rw (room-at n P p m h, append-assoc, append-assoc)
 
   -- the stretch, and the room with another worker's words put in its place
-  pub lent : take (stretch n) (drop (stretchAt n p) l) ≡ span n (m .worker p)
-  lent = rw (cut, drop-at (room n p m) (span n (m .worker p) ++ after) (stretchAt n p) before-long) (take-at (span n (m .worker p)) after (stretch n) own-long)
+  own : drop (stretchAt n p) l ≡ span n (m .worker p) ++ after
+  own = rw cut (drop-at (room n p m) (span n (m .worker p) ++ after) (stretchAt n p) before-long)
 
-  pub put-back : (w : Worker) → take (stretchAt n p) l ++ (span n w ++ drop (stretch n) (drop (stretchAt n p) l)) ≡ room n P (put m p w) ++ rest
+  pub lent : take (stretch n) (drop (stretchAt n p) l) ≡ span n (m .worker p)
+  lent = rw own (take-at (span n (m .worker p)) after (stretch n) own-long)
+
+  pub put-back : (w : Worker)
+      → take (stretchAt n p) l ++ (span n w ++ drop (stretch n) (drop (stretchAt n p) l)) ≡ room n P (put m p w) ++ rest
   put-back w =
       let front : take (stretchAt n p) l ≡ room n p m = rw cut (take-at (room n p m) (span n (m .worker p) ++ after) (stretchAt n p) before-long) in
-      let own : drop (stretchAt n p) l ≡ span n (m .worker p) ++ after = rw cut (drop-at (room n p m) (span n (m .worker p) ++ after) (stretchAt n p) before-long) in
       rw (front, own, drop-at (span n (m .worker p)) after (stretch n) own-long, room-put n P p m w h, append-assoc, append-assoc)
 
   pub own-word : (i : ℕ) → i < stretch n → getD l (stretchAt n p + i) 0 ≡ getD (span n (m .worker p)) i 0

@@ -1,7 +1,7 @@
 -- The turns that are left, one after the other: `State` is where the loop stands, and `start`, `next` and `final` are its begin, its turn and its
 -- end. `left` is the number of turns that gets less.
-use Prim.Native.Nat.{ℕ, suc, _+_, _-_, _<_, _≤_, _^_}
-use mathlib.Core.Path.{_≡_, refl, sym, ap, _∙_}
+use Prim.Native.Nat.{ℕ, _-_, _<_}
+use mathlib.Core.Path.{_≡_, refl, ap, _∙_}
 use mathlib.Core.Bool.{true, false}
 use mathlib.Core.List.{List}
 use lib.ListN.{length, take}
@@ -12,7 +12,7 @@ use Rattle.moves.specs.declared.Tally.{Tally}
 use Rattle.moves.specs.Tally.{raised, Low}
 use Rattle.steps.specs.declared.Standing.{Standing}
 use Rattle.steps.specs.declared.Moved.{Moved}
-use Rattle.steps.specs.Standing.{after, Stood, TallyOf, Ready, MovedIn}
+use Rattle.steps.specs.Standing.{Stood, TallyOf, Ready, MovedIn}
 use Rattle.search.specs.Turns.{Stepped, Underway, Begun, Ended}
 use Rattle.steps.proofs.Stood.{turn-left}
 use Rattle.search.proofs.Tallied.{tally-low}

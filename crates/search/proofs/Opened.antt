@@ -1,34 +1,20 @@
 -- Before the first move: a run is refused and nothing changes, or it stands at the start. `Opened` says it of both runs; the run to the end is the
 -- run over all its rounds.
-use Prim.Native.Nat.{ℕ, suc, _+_, _*_, _<_, _≤_, _^_}
-use mathlib.Core.Path.{_≡_, refl, sym, ap, subst, _∙_}
-use mathlib.Core.Bool.{Bool, true, false, cond, _&&_}
+use Prim.Native.Nat.{ℕ, _+_, _*_, _<_, _≤_, _^_}
+use mathlib.Core.Path.{_≡_, refl, ap, _∙_}
 use mathlib.Core.List.{List, [], _++_}
-use mathlib.Core.Logic.{_⊎_, inl, inr, _≢_}
-use lib.Dec.{eqb, ltb}
-use lib.ListN.{length, getD, drop, replicate}
-use native.Mathlib.Nat.{mul-le-mul-right, mul-pos}
-use native.Mathlib.Omega.{arith}
-use native.Mathlib.Numerals.{add-one}
-use borrow.Author.Tests.{lt-ltb, ne-eqb}
-use Rattle.graphs.specs.Words.{graphOf, isGraph, most-states, most-transitions}
-use Rattle.graphs.proofs.Words.{words-are}
-use Rattle.graphs.proofs.Tests.{either, same?, below?}
+use mathlib.Core.Logic.{_≢_}
+use lib.ListN.{length, drop, replicate}
+use borrow.Author.Tests.{ne-eqb}
+use Rattle.graphs.specs.Words.{graphOf}
 use Rattle.moves.specs.Room.{roomSize}
-use Rattle.moves.specs.Run.{undecided, run, rounds}
-use Rattle.theory.specs.Turns.{Named, Decided, mostMoves}
+use Rattle.theory.specs.Turns.{Named, mostMoves}
 use Rattle.theory.proofs.Ends.{rounds-named}
-use Rattle.theory.proofs.Demands.{graph-of-words, words-most, end-decides}
-use lib.Seq.{take-all}
-use Rattle.steps.specs.declared.Stop.{Stop}
 use Rattle.steps.specs.declared.Stop.the-variants.{Open, Refused}
 use Rattle.steps.specs.declared.Standing.{Standing}
-use Rattle.steps.specs.declared.Moved.{Moved}
-use Rattle.steps.specs.declared.played.Played.{Played}
-use Rattle.limits.specs.Refusals.{most-workers, refusalOf}
-use Rattle.steps.specs.Verdict.{answerOf, isOpen}
-use Rattle.steps.specs.Standing.{Held, Plays, stopped, goes, standingIn, standingOn, followed, allRounds, after, Stood, MovedOn}
-use Rattle.ends.specs.Ends.{Beginning, begun, begunBy, begunIn, begunOn}
+use Rattle.limits.specs.Refusals.{refusalOf}
+use Rattle.steps.specs.Standing.{Held, stopped, standingIn, standingOn, allRounds}
+use Rattle.ends.specs.Ends.{begun, begunBy, begunIn, begunOn}
 use Rattle.limits.proofs.Refused.{Fine, fine}
 use Rattle.steps.proofs.Rounded.{all-few, first-standing}
 

@@ -1,11 +1,10 @@
 -- What the three demands say of the two functions, for all arguments. A call is given by its outcome r, the words and the tally at exit, and the
 -- contract's equation; the words in quotes are those of the demands.
-use Prim.Native.Nat.{ℕ, suc, _+_, _*_, _≤_, _<_}
+use Prim.Native.Nat.{ℕ, _+_, _*_, _≤_, _<_}
 use mathlib.Core.Path.{_≡_, refl, sym, ap, subst, _∙_}
-use mathlib.Core.Bool.{Bool, true, false, cond}
+use mathlib.Core.Bool.{true}
 use mathlib.Core.List.{List, [], _∷_, _++_, append-assoc}
 use mathlib.Core.Logic.{_⊎_, inl, inr, _≢_}
-use lib.Dec.{eqb}
 use lib.ListN.{length, drop, take}
 use lib.Seq.{take-at, drop-at}
 use native.Mathlib.Omega.{arith}
@@ -20,7 +19,8 @@ use Rattle.moves.specs.Room.{room, roomSize}
 use Rattle.moves.specs.Run.{Answer, cycle, none, undecided, Result, next, run, rounds}
 use Rattle.theory.specs.Turns.{Named, Cut, Decided, Word, word-cycle, word-none, word-undecided, wordOf, mostMoves}
 use Rattle.theory.proofs.Ends.{rounds-named, rounds-cut}
-use Rattle.theory.proofs.Demands.{graph-of-words, each-turn-moves, cycle-is-lasso, none-is-none, undecided-ran-out, words-moves-bounded, words-cut-decides, cut-same-word, words-most}
+use Rattle.theory.proofs.Demands.{graph-of-words, each-turn-moves, cycle-is-lasso, none-is-none, undecided-ran-out, words-moves-bounded}
+use Rattle.theory.proofs.Demands.{words-cut-decides, cut-same-word, words-most}
 use Rattle.limits.specs.Refusals.{refusalOf, usual}
 use Rattle.limits.proofs.Refused.{fine}
 use Rattle.ends.specs.declared.Outcome.{Outcome}
@@ -54,7 +54,8 @@ wordNumber (told-refusal number line) = 3
 
 -- A call that was refused with the number, if it is not 0, and else ran over the turns. `run-call` and `end-call` say that the two functions' calls
 -- are such: the run to the end is the run over its rounds.
-pub record Call (offsets targets flags turns : List ℕ) (P number : ℕ) (l lasso : List ℕ) (t : Tally) (r : Outcome) (l′ lasso′ : List ℕ) (t′ : Tally) : Type 0 where
+pub record Call (offsets targets flags turns : List ℕ) (P number : ℕ) (l lasso : List ℕ) (t : Tally)
+    (r : Outcome) (l′ lasso′ : List ℕ) (t′ : Tally) : Type 0 where
   pub graph : number ≡ 0 → isGraph offsets targets flags ≡ true
   pub some : number ≡ 0 → 0 < P
   pub named : number ≡ 0 → Named P turns
@@ -229,4 +230,5 @@ same-word {offsets} {targets} {flags} {turns} {turns₂} {P} {r} {r₂} a b x y 
 pub end-cut : (offsets targets flags : List ℕ) (P : ℕ) → isGraph offsets targets flags ≡ true
     → Cut P (P * (1 + 4 * length flags + 3 * length targets)) (endTurns offsets targets flags P)
 end-cut offsets targets flags P is =
-    subst (λ k. Cut P k (endTurns offsets targets flags P)) (words-most offsets targets flags is P) (rounds-cut P (mostMoves (graphOf offsets targets flags) P))
+    let most = mostMoves (graphOf offsets targets flags) P in
+    subst (λ k. Cut P k (endTurns offsets targets flags P)) (words-most offsets targets flags is P) (rounds-cut P most)

@@ -1,10 +1,8 @@
 -- The two runs, part by part: what the loop over the turns asks, what the end asks, and that what is left is the outcome that 01 gives.
 use Prim.Native.Nat.{ℕ, _<_, _≤_, _^_}
-use mathlib.Core.Path.{_≡_, sym, ap, subst, _∙_}
+use mathlib.Core.Path.{_≡_, sym, ap, subst}
 use mathlib.Core.List.{List, []}
 use mathlib.Core.Logic.{_⊎_, inl, inr, _≢_}
-use mathlib.Core.Bool.{cond}
-use lib.Dec.{eqb}
 use lib.ListN.{length}
 use borrow.Author.Tests.{ne-eqb}
 use Rattle.graphs.specs.Words.{graphOf}
@@ -17,7 +15,7 @@ use Rattle.ends.specs.declared.Outcome.{Outcome}
 use Rattle.steps.specs.declared.Standing.{Standing}
 use Rattle.limits.specs.Refusals.{refusalOf, usual}
 use Rattle.ends.specs.Told.{told, tellsOf}
-use Rattle.search.specs.Outcomes.{Lent, lent, left, outcome, outcomeToEnd, Settles}
+use Rattle.search.specs.Outcomes.{lent, left, outcome, outcomeToEnd, Settles}
 use Rattle.steps.specs.Standing.{allRounds}
 use Rattle.search.specs.Turns.{Begun, Ended, BegunRounds, EndedRounds}
 use Rattle.ends.specs.Ends.{begun, begunIn, begunOn, resetOf, Finishing, finishedLasso, finishedOutcome}

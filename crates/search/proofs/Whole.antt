@@ -1,23 +1,20 @@
 -- The parts of a run together: what the loop over the turns asks after the beginning, what the end asks after the loop, and that all of it leaves
 -- what 01 says. Said of a list of turns, which for the run to the end is that of all its rounds.
-use Prim.Native.Nat.{ℕ, _+_, _*_, _<_, _≤_}
-use mathlib.Core.Path.{_≡_, refl, sym, ap, subst, _∙_}
-use mathlib.Core.Bool.{true, false, cond}
-use mathlib.Core.List.{List, [], _++_}
+use Prim.Native.Nat.{ℕ, _+_, _≤_}
+use mathlib.Core.Path.{_≡_, refl, sym, ap, _∙_}
+use mathlib.Core.Bool.{true, false}
+use mathlib.Core.List.{List, _++_}
 use mathlib.Core.Logic.{_⊎_, inl, inr, _≢_}
-use lib.Dec.{eqb}
-use lib.ListN.{length, drop, take, replicate}
+use lib.ListN.{length, drop, take}
 use native.Mathlib.Omega.{arith}
 use borrow.Author.Tests.{ne-eqb}
 use Rattle.graphs.specs.Graph.{Graph, graph}
-use Rattle.graphs.specs.Words.{graphOf, isGraph}
+use Rattle.graphs.specs.Words.{graphOf}
 use Rattle.graphs.proofs.Words.{words-are}
 use Rattle.graphs.proofs.Tests.{either, same?, clash}
 use Rattle.moves.specs.declared.Tally.{Tally}
-use Rattle.moves.specs.Machine.{Machine, start}
-use Rattle.moves.specs.Tally.{zeroes}
-use Rattle.moves.specs.Room.{room, roomSize, stretchAt}
-use Rattle.moves.specs.Run.{Answer, Result, begin, runFrom, run}
+use Rattle.moves.specs.Room.{room, roomSize}
+use Rattle.moves.specs.Run.{runFrom, run}
 use Rattle.moves.proofs.Words.{Seen}
 use Rattle.theory.proofs.Demands.{graph-of-words}
 use Rattle.theory.proofs.Rooms.{run-fits}
@@ -26,16 +23,16 @@ use Rattle.steps.specs.declared.Stop.{Stop}
 use Rattle.steps.specs.declared.Stop.the-variants.{Open, Quiet, Found, Refused}
 use Rattle.steps.specs.declared.Standing.{Standing}
 use Rattle.ends.specs.Told.{told, told-refusal, tellsOf, shown}
-use Rattle.search.specs.Outcomes.{Lent, lent, left, unless}
+use Rattle.search.specs.Outcomes.{lent, left, unless}
 use Rattle.steps.specs.Verdict.{answerOf}
-use Rattle.steps.specs.Standing.{Finds, stopped, standingIn, after, Stood, TallyOf}
+use Rattle.steps.specs.Standing.{Finds, stopped, after, Stood, TallyOf}
 use Rattle.search.specs.Turns.{Underway, Begun, Ended}
 use Rattle.ends.specs.Ends.{resetOf, FinishingBy, Finishing, lassoBy, finishedLasso, outcomeBy, finishedOutcome}
 use Rattle.ends.proofs.Numbered.{refused-told}
 use Rattle.ends.proofs.Fresh.{fresh-room}
 use Rattle.ends.proofs.Shown.{shown-words, found-told, stacked-fits}
 use Rattle.steps.proofs.Stood.{standing-used, standing-stop, named-first, stood-start, at-end}
-use Rattle.search.proofs.Opened.{Start, Opened}
+use Rattle.search.proofs.Opened.{Opened}
 
 module _ (offsets targets flags turns : List ℕ) (P number : ℕ) (low : (number ≡ 0) ⊎ ((9 ≤ number) × (number ≤ 13))) (l lasso : List ℕ) (t : Tally)
     (s : Standing) (l₁ : List ℕ) (t₁ : Tally) (from : Opened offsets targets flags turns P number (length lasso) l s l₁) (reset : t₁ ≡ resetOf t s) where

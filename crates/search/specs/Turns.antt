@@ -13,7 +13,8 @@ pub record SteppedOn (offsets targets flags turns : List ℕ) (P : ℕ) (rest : 
   pub stood : Stood offsets targets flags turns P rest r l′
   pub tally : TallyOf offsets targets flags turns P r t′
 
-abbrev pub Stepped : (offsets targets flags turns : List ℕ) (P : ℕ) (s : Standing) (l : List ℕ) (t : Tally) (r : Standing) (l′ : List ℕ) (t′ : Tally) → Type 0
+abbrev pub Stepped : (offsets targets flags turns : List ℕ) (P : ℕ) (s : Standing) (l : List ℕ) (t : Tally)
+    (r : Standing) (l′ : List ℕ) (t′ : Tally) → Type 0
 Stepped offsets targets flags turns P s l t r l′ t′ =
     (rest : List ℕ) → Stood offsets targets flags turns P rest s l → TallyOf offsets targets flags turns P s t
     → SteppedOn offsets targets flags turns P rest s r l′ t′
@@ -27,18 +28,21 @@ pub record Underway (offsets targets flags turns : List ℕ) (P : ℕ) (s : Stan
 abbrev pub Begun : (offsets targets flags turns : List ℕ) (P : ℕ) (s : Standing) (l : List ℕ) (t : Tally) → Type 0
 Begun offsets targets flags turns P s l t = s .going ≡ true → Underway offsets targets flags turns P s l t
 
-pub record Ended (offsets targets flags turns : List ℕ) (P : ℕ) (s : Standing) (l : List ℕ) (t : Tally) (r : Standing) (l′ : List ℕ) (t′ : Tally) : Type 0 where
+pub record Ended (offsets targets flags turns : List ℕ) (P : ℕ) (s : Standing) (l : List ℕ) (t : Tally)
+    (r : Standing) (l′ : List ℕ) (t′ : Tally) : Type 0 where
   pub stops : r .going ≡ false
   pub idle : s .going ≡ false → (r ≡ s) × (l′ ≡ l) × (t′ ≡ t)
   pub ran : (rest : List ℕ) → s .going ≡ true → Stood offsets targets flags turns P rest s l → TallyOf offsets targets flags turns P s t
       → Stood offsets targets flags turns P rest r l′ × TallyOf offsets targets flags turns P r t′
 
 -- the same of the run to the end
-abbrev pub SteppedRound : (offsets targets flags : List ℕ) (P : ℕ) (s : Standing) (l : List ℕ) (t : Tally) (r : Standing) (l′ : List ℕ) (t′ : Tally) → Type 0
+abbrev pub SteppedRound : (offsets targets flags : List ℕ) (P : ℕ) (s : Standing) (l : List ℕ) (t : Tally)
+    (r : Standing) (l′ : List ℕ) (t′ : Tally) → Type 0
 SteppedRound offsets targets flags P s l t r l′ t′ = Stepped offsets targets flags (allRounds offsets targets flags P) P s l t r l′ t′
 
 abbrev pub BegunRounds : (offsets targets flags : List ℕ) (P : ℕ) (s : Standing) (l : List ℕ) (t : Tally) → Type 0
 BegunRounds offsets targets flags P s l t = Begun offsets targets flags (allRounds offsets targets flags P) P s l t
 
-abbrev pub EndedRounds : (offsets targets flags : List ℕ) (P : ℕ) (s : Standing) (l : List ℕ) (t : Tally) (r : Standing) (l′ : List ℕ) (t′ : Tally) → Type 0
+abbrev pub EndedRounds : (offsets targets flags : List ℕ) (P : ℕ) (s : Standing) (l : List ℕ) (t : Tally)
+    (r : Standing) (l′ : List ℕ) (t′ : Tally) → Type 0
 EndedRounds offsets targets flags P s l t r l′ t′ = Ended offsets targets flags (allRounds offsets targets flags P) P s l t r l′ t′

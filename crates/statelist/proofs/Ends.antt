@@ -17,7 +17,8 @@ use Rattle.statelist.specs.declared.Reading.the-variants.{Graph, TooLong
 use Rattle.statelist.specs.Text.{State, Transition, Rooms, Seen, Meaning, reads, refused, isNil, atEnd, most-text, meaning}
 use Rattle.statelist.specs.Lists.{zeros, padded, flagsOf, placesOf, targetsOf, offsetsOf, filled, roomsOf, outcome, comes}
 use Rattle.statelist.specs.Labels.{labelAt}
-use Rattle.statelist.specs.Loops.{stateAt, statesIn, transitionsIn, from-here, Index, Refused, roomFor, Declared, Listed, Fills, Closed, Closes}
+use Rattle.statelist.specs.Loops.{stateAt, statesIn, transitionsIn, from-here, Index, Refused, roomFor, Declared, Listed, Fills, Closed}
+use Rattle.statelist.specs.Loops.{Closes}
 use Rattle.statelist.specs.Build.{Buildable}
 use Rattle.statelist.proofs.Settled.{told-one}
 use Rattle.statelist.proofs.Here.{end-here}

@@ -12,7 +12,8 @@ use borrow.Author.Tests.{lt-ltb}
 use Rattle.graphs.proofs.Tests.{cond-ind}
 use Rattle.lines.specs.Line.{pieces, field, isState}
 use Rattle.lines.specs.Found.{firstLine, ended}
-use Rattle.statelist.specs.Text.{Rooms, Seen, Meaning, reads, refused, isNil, oneLine, thenOn, atEnd, readLines, nothing, most-text, meaning}
+use Rattle.statelist.specs.Text.{Rooms, Seen, Meaning, reads, refused, isNil, oneLine, thenOn, atEnd, readLines, nothing, most-text}
+use Rattle.statelist.specs.Text.{meaning}
 use Rattle.lines.proofs.Pieces.{pieces-ended}
 use Rattle.lines.proofs.Records.{state-place}
 use Rattle.statelist.proofs.Nil.{not-nil}

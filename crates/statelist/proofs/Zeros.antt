@@ -1,22 +1,15 @@
--- Laws of lists of zeros, and of lists with zeros behind: clearing a list by a loop that goes up, and what a padded list is.
+-- Laws of lists with zeros behind: what a padded list is.
 use Prim.Native.Nat.{ℕ, _+_, _-_, _<_, _≤_}
 use mathlib.Core.Path.{_≡_, sym, ap, _∙_}
 use mathlib.Core.List.{List, _++_}
 use mathlib.Core.Logic.{_⊎_, inl, inr}
-use lib.ListN.{length, getD, set, take, length-append, length-replicate, replicate-append-replicate, List·getD-append}
-use lib.Seq.{take-suc-set, take-all, take-at, getD-append-add, getD-take, length-take-le, ext-getD}
+use lib.ListN.{length, getD, take, length-append, length-replicate, List·getD-append}
+use lib.Seq.{take-at, getD-append-add, getD-take, length-take-le, ext-getD}
 use native.Mathlib.Omega.{arith}
-use native.Mathlib.Numerals.{add-one}
 use Rattle.graphs.proofs.Stamps.{zeroes-at}
 use Rattle.graphs.proofs.Tests.{below?}
 use Rattle.statelist.specs.Lists.{zeros, padded}
 use Rattle.statelist.specs.Loops.{Blank}
-
-pub cleared-more : (l : List ℕ) (i : ℕ) → i < length l → take i l ≡ zeros i → take (i + 1) (set l i 0) ≡ zeros (i + 1)
-cleared-more l i h e = rw (add-one, take-suc-set l i 0 h, e, replicate-append-replicate {A = ℕ} i 1 0, add-one)
-
-pub cleared-all : (l : List ℕ) (i k : ℕ) → length l ≤ i → i ≤ k → k ≡ length l → take i l ≡ zeros i → l ≡ zeros k
-cleared-all l i k h low q e = let end : i ≡ k = omega arith in sym (take-all i l h) ∙ e ∙ ap zeros end
 
 pub padded-take : (k n : ℕ) (l : List ℕ) → length l ≡ n → take n (padded k l) ≡ l
 unfolding padded

@@ -1,4 +1,5 @@
 // The lent lists as rooms: how many states and transitions they hold, and all their words set to 0.
+use words::clear;
 ghost use mathlib.Core.Path.{_≡_};
 ghost use lib.ListN.{length};
 ghost use Prim.Native.Nat.{min, _-_, _/_};
@@ -32,16 +33,6 @@ pub fn transitions_held(targets: usize) -> usize
     ensures { λ r. ⌜ r ≡ transitionsHeld targets ⌝ }
 {
     least(16384, targets)
-}
-
-fn clear(words: &mut [u16])
-    ensures { λ _. ⌜ now (words .exit) ≡ zeros (length (now (words .entry))) ⌝ }
-{
-    let mut i = 0;
-    while i < words.len() {
-        words[i] = 0;
-        i += 1;
-    }
 }
 
 fn clear_places(places: &mut [u32])

@@ -1,11 +1,11 @@
 -- The verdict that is read from the room after a move stands for the machine's answer.
 use Prim.Native.Nat.{ℕ, suc, _+_, _*_, _<_, _≤_}
-use mathlib.Core.Path.{_≡_, refl, sym, ap, subst, _∙_}
+use mathlib.Core.Path.{_≡_, refl, sym, ap, _∙_}
 use mathlib.Core.Bool.{Bool, true, false, cond}
-use mathlib.Core.List.{List, [], _∷_, _++_}
+use mathlib.Core.List.{List}
 use lib.Dec.{eqb}
-use lib.ListN.{length, getD}
-use native.Mathlib.Nat.{add-zero, suc-mul, mul-le-mul-right}
+use lib.ListN.{length}
+use native.Mathlib.Nat.{suc-mul, mul-le-mul-right}
 use native.Mathlib.Omega.{arith}
 use Rattle.graphs.proofs.Every.{every-ext}
 use Rattle.graphs.proofs.Tests.{cond-ind}
@@ -20,14 +20,14 @@ use Rattle.moves.specs.Place.{isDone}
 use Rattle.moves.specs.Machine.{Machine}
 use Rattle.moves.specs.Changes.{takes}
 use Rattle.moves.specs.Moves.{Made, turn}
-use Rattle.moves.specs.Room.{kindWord, stretchAt, stretch, roomSize, room}
+use Rattle.moves.specs.Room.{kindWord, stretchAt, stretch, roomSize}
 use Rattle.moves.specs.Run.{none, undecided, allDone, quiet, answerTo}
 use Rattle.moves.proofs.Words.{Seen, own-word, last-at, long}
-use Rattle.theory.specs.Rules.{Rule, by-start, by-skip, by-enter, by-leave, by-seed, by-hit, by-pass, by-join, by-back, by-paint, by-wait, by-rest}
+use Rattle.theory.specs.Rules.{Rule, by-start, by-skip, by-enter, by-leave, by-seed, by-hit, by-pass, by-join, by-back, by-paint, by-wait}
+use Rattle.theory.specs.Rules.{by-rest}
 use Rattle.theory.proofs.Rules.{obeys}
 use Rattle.turn.specs.Turn.{Formed, Turned}
 use Rattle.turn.proofs.Given.{Given, seen, fits-of, shallow-after}
-use Rattle.steps.specs.declared.Stop.{Stop}
 use Rattle.steps.specs.declared.Stop.the-variants.{Open, Quiet}
 use Rattle.steps.specs.Verdict.{answerOf, allDoneIn, quietIn, verdictIn, quietStop, stopTo}
 use Rattle.steps.specs.declared.played.Played.{Played}

@@ -1,9 +1,9 @@
 -- Where a run stands, from its start through each turn to its end: it is the run over the first turns of the list, and once there is no turn to
 -- make it is the run over the whole list.
-use Prim.Native.Nat.{ℕ, suc, _+_, _<_, _≤_, _^_}
-use mathlib.Core.Path.{_≡_, refl, sym, ap, subst, _∙_}
+use Prim.Native.Nat.{ℕ, _+_, _<_, _≤_, _^_}
+use mathlib.Core.Path.{_≡_, refl, sym, ap, _∙_}
 use mathlib.Core.Bool.{Bool, true, false, cond, _&&_}
-use mathlib.Core.List.{List, [], _∷_, _++_}
+use mathlib.Core.List.{List, _++_}
 use mathlib.Core.Logic.{_⊎_, inl, inr}
 use lib.Dec.{ltb}
 use lib.ListN.{length, getD, take, drop, take-append-drop}
@@ -15,13 +15,10 @@ use Rattle.graphs.specs.Graph.{Graph, Sound}
 use Rattle.graphs.specs.Words.{graphOf}
 use Rattle.graphs.proofs.Tests.{either, clash, and-cases, below?}
 use Rattle.graphs.proofs.Member.{mem-take, drop-mem}
-use Rattle.moves.specs.declared.Tally.{Tally}
-use Rattle.moves.specs.Machine.{Machine, start}
+use Rattle.moves.specs.Machine.{start}
 use Rattle.moves.specs.Moves.{turn}
-use Rattle.moves.specs.Tally.{raised}
 use Rattle.moves.specs.Room.{room}
 use Rattle.moves.specs.Run.{undecided, Result, begin, next, runFrom, run}
-use Rattle.theory.specs.Invariant.{Invariant}
 use Rattle.theory.specs.Turns.{Named, Decided, Stands}
 use Rattle.theory.proofs.Run.{run-stands, begin-stands}
 use Rattle.theory.proofs.Demands.{each-turn-moves, answer-stays, graph-of-words}
@@ -32,7 +29,7 @@ use Rattle.steps.specs.declared.Standing.{Standing}
 use Rattle.steps.specs.declared.Moved.{Moved}
 use Rattle.steps.specs.declared.played.Played.{Played}
 use Rattle.steps.specs.Verdict.{answerOf, isOpen}
-use Rattle.steps.specs.Standing.{Finds, Held, Due, PlayedOn, Plays, stopped, goes, standingIn, after, Stood, TallyOf, MovedOn}
+use Rattle.steps.specs.Standing.{Finds, Held, Due, Plays, stopped, goes, standingIn, after, Stood, MovedOn}
 
 pub open-stop : (stop : Stop) → isOpen stop ≡ true → stop ≡ Open
 open-stop Open e = refl

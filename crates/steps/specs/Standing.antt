@@ -1,18 +1,17 @@
 -- Where a run stands between two turns: what the private functions that make the turns ask and promise. No public contract cites this page.
-use Prim.Native.Nat.{ℕ, suc, _+_, _*_, _<_, _≤_, _^_}
+use Prim.Native.Nat.{ℕ, suc, _+_, _<_, _≤_, _^_}
 use mathlib.Core.Path.{_≡_}
-use mathlib.Core.Bool.{Bool, true, false, cond, _&&_}
+use mathlib.Core.Bool.{true, false, cond, _&&_}
 use mathlib.Core.List.{List, _++_}
 use lib.Dec.{ltb}
 use lib.ListN.{length, getD, take}
 use Rattle.graphs.specs.Words.{graphOf, isGraph}
-use Rattle.moves.specs.declared.Move.{Move}
 use Rattle.moves.specs.declared.Tally.{Tally}
 use Rattle.moves.specs.Machine.{Machine}
 use Rattle.moves.specs.Moves.{turn}
-use Rattle.moves.specs.Tally.{zeroes, raised, Low}
+use Rattle.moves.specs.Tally.{raised}
 use Rattle.moves.specs.Room.{room}
-use Rattle.moves.specs.Run.{Answer, answerTo, Result, run, rounds}
+use Rattle.moves.specs.Run.{answerTo, Result, run, rounds}
 use Rattle.theory.specs.Turns.{Named, mostMoves}
 use Rattle.turn.specs.Turn.{Formed}
 use Rattle.steps.specs.declared.Stop.{Stop}

@@ -1,30 +1,31 @@
 -- The move that is chosen by the words is the move of the machine's turn, rule by rule; and what the choice asks is given.
-use Prim.Native.Nat.{ℕ, suc, _+_, _-_, _*_, _<_, _≤_}
-use mathlib.Core.Path.{_≡_, refl, sym, ap, subst, _∙_}
+use Prim.Native.Nat.{ℕ, suc, _+_, _-_, _*_, _<_}
+use mathlib.Core.Path.{_≡_, sym, ap, subst, _∙_}
 use mathlib.Core.Bool.{Bool, true, false, cond, _||_}
 use mathlib.Core.List.{List, [], _∷_}
 use lib.Dec.{eqb}
 use lib.ListN.{length, getD}
 use native.Mathlib.Omega.{arith}
-use Rattle.graphs.specs.Lists.{every}
 use Rattle.graphs.specs.Graph.{Graph, graph}
 use Rattle.graphs.specs.Words.{marked, graphOf}
 use Rattle.graphs.proofs.Every.{every-ext}
 use Rattle.moves.specs.declared.Place.{Place}
-use Rattle.moves.specs.declared.Place.the-variants.{Fresh, Outer, Inner, Waiting, Done}
 use Rattle.moves.specs.declared.Move.{Move}
 use Rattle.moves.specs.declared.Move.the-variants.{Skip, Enter, Leave, Seed, Hit, Pass, Join, Back, Paint, Wait}
 use Rattle.moves.specs.Machine.{Worker, Machine}
 use Rattle.moves.specs.Moves.{Made, remaining, othersRed}
 use Rattle.moves.specs.Room.{stretchAt}
 use Rattle.moves.proofs.Words.{bit-test, blue-word, red-word}
-use Rattle.theory.specs.Rules.{At, Outermost, Innermost, Rule, by-start, by-skip, by-enter, by-leave, by-seed, by-hit, by-pass, by-join, by-back, by-paint, by-wait, by-rest}
+use Rattle.theory.specs.Rules.{Outermost, Innermost, Rule, by-start, by-skip, by-enter, by-leave, by-seed, by-hit, by-pass, by-join, by-back}
+use Rattle.theory.specs.Rules.{by-paint, by-wait, by-rest}
 use Rattle.stretch.specs.Own.{ownOf}
 use Rattle.look.specs.Successor.{firstOf}
-use Rattle.look.specs.Look.{Topped, TopOf, Ready, outerTaken, outerEnded, onNext, outerMove, innerTaken, innerMove, passes, othersRedIn, waitingMove, chosenAt, chosen}
+use Rattle.look.specs.Look.{Topped, TopOf, Ready, outerTaken, outerEnded, onNext, outerMove, innerTaken, innerMove, passes, othersRedIn}
+use Rattle.look.specs.Look.{waitingMove, chosenAt, chosen}
 use Rattle.look.proofs.Rows.{row-of}
 use Rattle.look.proofs.Turned.{successor-is}
-use Rattle.turn.proofs.Given.{Given, seen, fits, after, inside, outer-state, inner-state, taken-state, cyan-word, R-word, taken-word, outer-word, inner-word}
+use Rattle.turn.proofs.Given.{Given, seen, fits, after, inside, outer-state, inner-state, taken-state, cyan-word, R-word, taken-word}
+use Rattle.turn.proofs.Given.{outer-word, inner-word}
 
 module _ {offsets targets flags : List ℕ} {P p : ℕ} {m : Machine} {rest l : List ℕ} (x : Given offsets targets flags P p m rest l) where
   abbrev n : ℕ

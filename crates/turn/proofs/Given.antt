@@ -1,23 +1,21 @@
 -- What is known where a turn of worker p is made: the room is the form of a machine with the invariant, and the words are a graph.
 use Prim.Native.Nat.{ℕ, suc, _+_, _-_, _*_, _<_, _≤_}
-use mathlib.Core.Path.{_≡_, refl, sym, ap, subst, _∙_}
+use mathlib.Core.Path.{_≡_, refl, sym, ap, _∙_}
 use mathlib.Core.Bool.{true}
-use mathlib.Core.List.{List, [], _∷_, _++_}
+use mathlib.Core.List.{List, [], _∷_}
 use mathlib.Core.Logic.{inl}
-use lib.ListN.{length, getD, drop, length-drop}
+use lib.ListN.{length, getD, length-drop}
 use native.Mathlib.Nat.{suc-mul, mul-le-mul-right, add-zero}
 use native.Mathlib.Omega.{arith}
 use Rattle.graphs.specs.Graph.{Graph, graph, Sound}
-use Rattle.graphs.specs.Words.{successors, graphOf, isGraph, most-states, most-transitions}
-use Rattle.graphs.proofs.Words.{words-are, words-sound, rising-to}
+use Rattle.graphs.specs.Words.{graphOf, isGraph, most-states, most-transitions}
+use Rattle.graphs.proofs.Words.{words-are, words-sound}
 use Rattle.moves.specs.Machine.{Worker, Machine}
 use Rattle.moves.specs.Moves.{remaining, turn}
-use Rattle.moves.specs.Room.{bit, kindWord, seedWord, span, stretch, room, roomSize, stretchAt, Fits, AllFit}
+use Rattle.moves.specs.Room.{bit, kindWord, seedWord, span, stretch, stretchAt, Fits, AllFit}
 use Rattle.moves.proofs.Room.{place-words}
 use Rattle.moves.proofs.Words.{Seen, long, own-word, cyan-at, R-at, taken-at, last-at, outer-top, inner-top}
-use Rattle.theory.specs.Stacks.{Shallow}
 use Rattle.theory.specs.Rules.{Outermost, Innermost}
-use Rattle.theory.specs.Invariant.{Invariant}
 use Rattle.theory.specs.Turns.{AllShallow}
 use Rattle.theory.proofs.Depth.{local-shallow}
 use Rattle.theory.proofs.Run.{turn-shallow}

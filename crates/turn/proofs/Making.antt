@@ -1,29 +1,29 @@
 -- What making the chosen move writes is the form of the machine after it, rule by rule; and what making it asks is given.
-use Prim.Native.Nat.{ℕ, zero, suc, _+_, _-_, _*_, _<_, _≤_}
-use mathlib.Core.Path.{_≡_, refl, sym, ap, subst, _∙_}
+use Prim.Native.Nat.{ℕ, zero, suc, _+_, _-_, _<_, _≤_}
+use mathlib.Core.Path.{_≡_, refl, ap, subst, _∙_}
 use mathlib.Core.Bool.{Bool, true, false, _||_}
-use mathlib.Core.List.{List, [], _∷_, _++_}
+use mathlib.Core.List.{List, _∷_, _++_}
 use mathlib.Core.Logic.{_⊎_, inl, inr, _≢_}
 use lib.Bits.{bitOr}
-use lib.ListN.{length, getD, set, take, drop}
+use lib.ListN.{length, getD, set}
 use native.Mathlib.Omega.{arith}
 use Rattle.graphs.specs.Lists.{upd}
-use Rattle.graphs.specs.Graph.{Graph, graph, Sound}
-use Rattle.graphs.specs.Words.{graphOf, most-transitions}
+use Rattle.graphs.specs.Graph.{Graph}
+use Rattle.graphs.specs.Words.{graphOf}
 use Rattle.graphs.proofs.Change.{upd-same, upd-other}
 use Rattle.graphs.proofs.Tests.{same?}
-use Rattle.moves.specs.declared.Place.the-variants.{Fresh, Outer, Inner, Waiting}
-use Rattle.moves.specs.declared.Move.{Move}
+use Rattle.moves.specs.declared.Place.the-variants.{Outer, Waiting}
 use Rattle.moves.specs.Machine.{Worker, Machine, empty}
 use Rattle.moves.specs.Place.{left, painted}
 use Rattle.moves.specs.Changes.{isEmpty, starts, takes, enters, pops, seeds, joins, backs, put, putBlue, dyed}
 use Rattle.moves.specs.Moves.{Made, remaining}
-use Rattle.moves.specs.Room.{bit, span, stretch, room, stretchAt, Fits, AllFit}
+use Rattle.moves.specs.Room.{bit, span, room, stretchAt, Fits, AllFit}
 use Rattle.moves.proofs.Room.{one-form}
 use Rattle.moves.proofs.Words.{Seen, lent, put-back, own-word, R-at, taken-at, red-word, blue-put, red-put}
 use Rattle.theory.specs.Invariant.{Calm}
 use Rattle.theory.specs.Turns.{AllShallow}
-use Rattle.theory.specs.Rules.{Outermost, Innermost, Rule, by-start, by-skip, by-enter, by-leave, by-seed, by-hit, by-pass, by-join, by-back, by-paint, by-wait, by-rest}
+use Rattle.theory.specs.Rules.{Outermost, Innermost, Rule, by-start, by-skip, by-enter, by-leave, by-seed, by-hit, by-pass, by-join, by-back}
+use Rattle.theory.specs.Rules.{by-paint, by-wait, by-rest}
 use Rattle.theory.proofs.Phase.{at}
 use Rattle.stretch.specs.Own.{ownOf}
 use Rattle.stretch.specs.Stores.{Counts, startWords, takeWords, enterWords, leaveWords, seedWords, joinWords, backWords, paintWords}

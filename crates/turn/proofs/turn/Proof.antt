@@ -1,6 +1,6 @@
 -- `turn` meets its contract: by Turned, whatever machine the room is the form of; the one that is asked for keeps the arithmetic in bounds.
 use borrow.Author.Needs.{needs}
-use Rattle.turn.proofs.Given.{Given, given, few, inside}
+use Rattle.turn.proofs.Given.{given, few, inside}
 use Rattle.turn.proofs.Turned.{ready-own, fit-own, turned}
 use Rattle.turn.proofs.turn.Statement.{statement}
 use Rattle.turn.proofs.turn.Tie as tie
@@ -30,20 +30,29 @@ own-in-requires : tie.Need-own-in-requires
 own-in-requires c κs = let in-room = inside (given (c .before .before .before .before .before .pre)) in search needs
 
 choose-requires : tie.Need-choose-requires
-choose-requires c κs = ready-own (given (c .before .before .before .before .before .before .before .pre)) (c .before .own-in .result) (c .before .own-in .ensures)
+choose-requires c κs =
+    let start = c .before .before .before .before .before .before .before in
+    ready-own (given (start .pre)) (c .before .own-in .result) (c .before .own-in .ensures)
 
 make-requires : tie.Need-make-requires
 make-requires c κs =
-    fit-own (given (c .before .before .before .before .before .before .before .before .before .pre)) (c .before .before .before .own-in .result) (c .before .before .before .own-in .ensures) (c .before .choose .result) (c .before .choose .ensures)
+    let chose = c .before in
+    let read = c .before .before .before in
+    let start = c .before .before .before .before .before .before .before .before .before in
+    fit-own (given (start .pre)) (read .own-in .result) (read .own-in .ensures) (chose .choose .result) (chose .choose .ensures)
 
 same-length : tie.Need-same-length
 same-length c = search needs
 
 returns : tie.Need-returns
 returns c =
+    let made = c .before .before in
+    let chose = c .before .before .before .before in
+    let read = c .before .before .before .before .before .before in
+    let start = c .before .before .before .before .before .before .before .before .before .before .before .before in
     λ P m rest named formed.
-    turned (record { is = c .before .before .before .before .before .before .before .before .before .before .before .before .pre .graph; named = named; formed = formed })
-    (c .before .before .before .before .before .before .own-in .result) (c .before .before .before .before .before .before .own-in .ensures) (c .before .before .before .before .choose .result) (c .before .before .before .before .choose .ensures) _ (c .before .before .make .ensures)
+    turned (record { is = start .pre .graph; named = named; formed = formed }) (read .own-in .result) (read .own-in .ensures)
+    (chose .choose .result) (chose .choose .ensures) _ (made .make .ensures)
 
 pub turn-spec : {M : Type 1} → statement M
 turn-spec =

@@ -8,7 +8,8 @@ use lib.ListN.{length, getD, drop, length-set}
 use borrow.Author.Needs.{needs}
 use borrow.Author.Tests.{eq-eqb, ne-eqb}
 use Rattle.graphs.specs.Lists.{repeats}
-use Rattle.graphs.proofs.Stamps.{unseen, stamped, unseen-repeats, unseen-hit, unseen-step, unseen-end, stamped-none, stamped-set, set-bound}
+use Rattle.graphs.proofs.Stamps.{unseen, stamped, unseen-repeats, unseen-hit, unseen-step, unseen-end, stamped-none, stamped-set}
+use Rattle.graphs.proofs.Stamps.{set-bound}
 use Rattle.graphs.proofs.checks.stamp_all.Statement.{statement}
 use Rattle.graphs.proofs.checks.stamp_all.Tie as tie
 

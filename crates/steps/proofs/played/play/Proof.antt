@@ -20,7 +20,8 @@ same-length c = search needs
 returns : tie.Need-returns
 returns c =
     let due = c .before .before .before .before .before .before .before .before .before .before .pre in
-    λ m rest formed. played-on (due .held) (due .named) formed _ _ (c .before .before .before .before .turn .ensures _ m rest (due .named) formed) (c .verdict .ensures)
+    let turned = c .before .before .before .before .turn .ensures in
+    λ m rest formed. played-on (due .held) (due .named) formed _ _ (turned _ m rest (due .named) formed) (c .verdict .ensures)
 
 pub play-spec : {M : Type 1} → statement M
 play-spec = tie.close (tie.spec turn-requires verdict-requires same-length returns)
