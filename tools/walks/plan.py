@@ -1,5 +1,5 @@
 #!/usr/bin/env python3
-"""plan.py [FN..]: writes the walks of the crate (all, or the named ones). For the real crate change CRATE, NEEDS, the modules of laws and, if they differ, the names in PLAN.
+"""plan.py [FN..]: writes the walks of the crate `search` (all, or the named ones).
 
 In the terms handed over, of a walk's own parameters: room-xs, tally-xs (a `&mut`: what it refers to at entry), `turns .now` (a `&`), workers and s (by value), room-g (.0 is `length < 2 ^ 64`), workers-is (`workers < 2 ^ 64`), pre (the
 function's `requires`). Of its calls, numbered from 0: rN the result, eN what the callee ensures; s.zs[N]["room"] is the room after N calls."""

@@ -450,7 +450,7 @@ unfolding code.routine tablesOf
         return o
     def write(s, text, what):
         d = os.path.join(s.src.top, 'crates', s.crate, 'proofs', *s.fn.split('::')); os.makedirs(d, exist_ok=True)
-        open(os.path.join(d, 'Proof.antt'), 'w').write(f'-- `{s.path}` meets its contract: a walk of its MIR, {what}. Written by walkgen.\n' + s.imports(text, s) + text)
+        open(os.path.join(d, 'Proof.antt'), 'w').write(f'-- `{s.path}` meets its contract: a walk of its MIR, {what}. Written by tools/walks.\n' + s.imports(text, s) + text)
     # ---- straight-line: calls that lend the `&mut`s again
     def seq(s, asks, glue):
         s.begin(); s.asked = lambda n: asks[n](s); n = 0; ex = s.exits()

@@ -8,6 +8,7 @@ use Rattle.moves.specs.declared.Move.{Move}
 use Rattle.moves.specs.declared.Tally.{Tally}
 use Rattle.moves.specs.Place.{started, left, seeded, backed, painted}
 use Rattle.moves.specs.Tally.{raised}
+use Rattle.moves.specs.Room.{kindWord, seedWord, placeOf}
 
 module _ (q : Place) {r r′ : Place} where
   pub started-settled : r ≡ started q → r′ ≡ started q → r ≡ r′
@@ -27,3 +28,12 @@ module _ (q : Place) {r r′ : Place} where
 
 pub raised-settled : (t : Tally) (made : Move) {r r′ : Tally} → r ≡ raised t made → r′ ≡ raised t made → r ≡ r′
 raised-settled t made = settled
+
+pub kind-settled : (q : Place) {r r′ : ℕ} → r ≡ kindWord q → r′ ≡ kindWord q → r ≡ r′
+kind-settled q = settled
+
+pub seed-settled : (q : Place) {r r′ : ℕ} → r ≡ seedWord q → r′ ≡ seedWord q → r ≡ r′
+seed-settled q = settled
+
+pub place-of-settled : (kind seed : ℕ) {r r′ : Place} → r ≡ placeOf kind seed → r′ ≡ placeOf kind seed → r ≡ r′
+place-of-settled kind seed = settled

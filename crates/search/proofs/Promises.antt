@@ -17,10 +17,10 @@ use Rattle.moves.specs.declared.Tally.{Tally}
 use Rattle.moves.specs.Moves.{turn}
 use Rattle.moves.specs.Room.{room, roomSize}
 use Rattle.moves.specs.Run.{Answer, cycle, none, undecided, Result, next, run, rounds}
-use Rattle.theory.specs.Turns.{Named, Cut, Decided, Word, word-cycle, word-none, word-undecided, wordOf, mostMoves}
+use Rattle.theory.specs.Turns.{Named, Cut, CanMove, Decided, Word, word-cycle, word-none, word-undecided, wordOf, mostMoves}
 use Rattle.theory.proofs.Ends.{rounds-named, rounds-cut}
-use Rattle.theory.proofs.Demands.{graph-of-words, each-turn-moves, cycle-is-lasso, none-is-none, undecided-ran-out, words-moves-bounded}
-use Rattle.theory.proofs.Demands.{words-cut-decides, cut-same-word, words-most}
+use Rattle.theory.proofs.Demands.{graph-of-words, each-turn-moves, cycle-is-lasso, none-is-none, undecided-ran-out, some-worker-moves}
+use Rattle.theory.proofs.Demands.{words-moves-bounded, words-cut-decides, cut-same-word, words-most}
 use Rattle.limits.specs.Refusals.{refusalOf, usual}
 use Rattle.limits.proofs.Refused.{fine}
 use Rattle.ends.specs.declared.Outcome.{Outcome}
@@ -189,17 +189,27 @@ module _ {offsets targets flags turns : List ℕ} {P number : ℕ} {l lasso : Li
         go (cycle xs ys) q = let z = ap wordNumber (sym (tells-is ∙ ap (λ a. tellsOf a (end .used)) q) ∙ e) in absurd (omega (arith, z))
         go undecided q = let z = ap wordNumber (sym (tells-is ∙ ap (λ a. tellsOf a (end .used)) q) ∙ e) in absurd (omega (arith, z))
 
-    -- ""undecided" only if the list ran out first"
-    pub undecided-used-all : (used : ℕ) → told r ≡ told-undecided used → used ≡ length turns
-    undecided-used-all used e = go (end .answer) refl
+    undecided-answer : (used : ℕ) → told r ≡ told-undecided used → end .answer ≡ undecided
+    undecided-answer used e = go (end .answer) refl
       where
-        go : (a : Answer) → end .answer ≡ a → used ≡ length turns
-        go undecided q =
-            let same : told-undecided (end .used) ≡ told-undecided used = sym (tells-is ∙ ap (λ a. tellsOf a (end .used)) q) ∙ e in
-            let k : end .used ≡ used = cc in
-            sym k ∙ undecided-ran-out g P turns q
+        go : (a : Answer) → end .answer ≡ a → a ≡ undecided
+        go undecided q = refl
         go (cycle xs ys) q = let z = ap wordNumber (sym (tells-is ∙ ap (λ a. tellsOf a (end .used)) q) ∙ e) in absurd (omega (arith, z))
         go none q = let z = ap wordNumber (sym (tells-is ∙ ap (λ a. tellsOf a (end .used)) q) ∙ e) in absurd (omega (arith, z))
+
+    -- ""undecided" only if the list ran out first"
+    pub undecided-used-all : (used : ℕ) → told r ≡ told-undecided used → used ≡ length turns
+    undecided-used-all used e =
+        let open-end = undecided-answer used e in
+        let same : told-undecided (end .used) ≡ told-undecided used = sym (tells-is ∙ ap (λ a. tellsOf a (end .used)) open-end) ∙ e in
+        let k : end .used ≡ used = cc in
+        sym k ∙ undecided-ran-out g P turns open-end
+
+    -- 3. "at every point that turns can lead to without an answer, some worker can make a move that changes its state"
+    pub some-worker-can : (used : ℕ) → told r ≡ told-undecided used → (p : ℕ) × (p < P) × CanMove g (end .machine) p
+    some-worker-can used e =
+        let (p, below, can, differs) = some-worker-moves g P sound some turns named (undecided-answer used e) in
+        (p, below, can)
 
 -- 3. ".. and in the same word as every other such list": two calls on the same words with as many workers
 pub same-word : {offsets targets flags turns turns₂ : List ℕ} {P number number₂ : ℕ} {l lasso l₂ lasso₂ : List ℕ} {t t₂ : Tally} {r r₂ : Outcome}

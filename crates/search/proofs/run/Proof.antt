@@ -1,4 +1,4 @@
--- `search::run` meets its contract: a walk of its MIR, straight-line. Written by walkgen.
+-- `search::run` meets its contract: a walk of its MIR, straight-line. Written by tools/walks.
 use mathlib.Core.Path.{_≡_, refl, sym, ap, subst, _∙_}
 use Prim.Native.Nat.{ℕ, _-_, _<_, _^_}
 use mathlib.Core.List.{[], _∷_, List}

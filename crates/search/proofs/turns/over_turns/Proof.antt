@@ -1,4 +1,4 @@
--- `search::turns::over_turns` meets its contract: a walk of its MIR, with a loop. Written by walkgen.
+-- `search::turns::over_turns` meets its contract: a walk of its MIR, with a loop. Written by tools/walks.
 use mathlib.Core.Path.{_≡_, refl, sym, ap, subst}
 use Prim.Native.Nat.{ℕ, _-_, _<_, _^_}
 use mathlib.Core.List.{[], _∷_, List}

@@ -1,4 +1,4 @@
--- `search::turns::reset` meets its contract: a walk of its MIR, thin: the struct is copied out, the covered function is called on it, and what it returns is stored. Written by walkgen.
+-- `search::turns::reset` meets its contract: a walk of its MIR, thin: the struct is copied out, the covered function is called on it, and what it returns is stored. Written by tools/walks.
 use mathlib.Core.Path.{_≡_, refl, ap}
 use Prim.Native.Nat.{ℕ, _-_}
 use mathlib.Core.List.{[], _∷_, List}

@@ -1,0 +1,2 @@
+-- That the contract settles the call.
+pub mod Settled
