@@ -1,4 +1,5 @@
--- The two ends of a run: where it stands before the first move, and what it tells after the last one. No public contract cites this page.
+-- The two ends of a run: where it stands before the first move, and what it tells after the last one. No entry
+-- point's contract cites this page.
 use Prim.Native.Nat.{ℕ}
 use mathlib.Core.Bool.{cond}
 use mathlib.Core.List.{List, [], _++_}

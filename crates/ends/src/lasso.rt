@@ -45,5 +45,9 @@ pub fn show(room: &[u16], lasso: &mut [u16], n: usize, p: u16, x: u16, used: usi
     copy(&mut lasso[..outer], &room[o..o + outer]);
     copy(&mut lasso[outer..outer + inner], &room[i..i + inner]);
     let stem = place_down(&room[o..o + outer], x);
-    Outcome::Cycle(stem, outer + inner - stem, used)
+    Outcome::Cycle {
+        stem,
+        loop_: outer + inner - stem,
+        used,
+    }
 }

@@ -19,9 +19,17 @@ ghost use Rattle.ends.specs.Ends.{begun, begunIn, begunOn, Finishing, re
 // What a run came to: an answer, with the turns used, or a refusal, in the order of 01's numbers 9 to 13.
 pub enum Outcome {
     // the lengths of stem and loop, and the turns used
-    Cycle(usize, usize, usize),
-    None(usize),
-    Undecided(usize),
+    Cycle {
+        stem: usize,
+        loop_: usize,
+        used: usize,
+    },
+    None {
+        used: usize,
+    },
+    Undecided {
+        used: usize,
+    },
     NoWorkers,
     NoGraph,
     RoomShort,
@@ -126,8 +134,8 @@ pub fn finish(room: &[u16], lasso: &mut [u16], flags: &[u16], s: Standing) -> Ou
     let used = s.used;
     let stop = s.stop;
     match stop {
-        Stop::Open => Outcome::Undecided(used),
-        Stop::Quiet => Outcome::None(used),
+        Stop::Open => Outcome::Undecided { used },
+        Stop::Quiet => Outcome::None { used },
         Stop::Found(p, x) => show(room, lasso, flags.len(), p, x, used),
         Stop::Refused(number) => refused(number),
     }

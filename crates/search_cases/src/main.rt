@@ -244,9 +244,9 @@ fn told(counted: Counted) {
 // 01's number of each refusal.
 fn came(outcome: Outcome) {
     match outcome {
-        Outcome::Cycle(stem, ring, used) => cycle(stem, ring, used),
-        Outcome::None(used) => answer(b"none", used),
-        Outcome::Undecided(used) => answer(b"undecided", used),
+        Outcome::Cycle { stem, loop_, used } => cycle(stem, loop_, used),
+        Outcome::None { used } => answer(b"none", used),
+        Outcome::Undecided { used } => answer(b"undecided", used),
         Outcome::NoWorkers => answer(b"refused", 9),
         Outcome::NoGraph => answer(b"refused", 10),
         Outcome::RoomShort => answer(b"refused", 11),

@@ -1,4 +1,4 @@
--- Where a run stands between two turns: what the private functions that make the turns ask and promise. No public contract cites this page.
+-- Where a run stands between two turns: what the functions that make its turns ask and promise. No entry point's contract cites this page.
 use Prim.Native.Nat.{ℕ, suc, _+_, _<_, _≤_, _^_}
 use mathlib.Core.Path.{_≡_}
 use mathlib.Core.Bool.{true, false, cond, _&&_}

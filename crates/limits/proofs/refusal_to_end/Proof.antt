@@ -1,4 +1,7 @@
 -- `refusal_to_end` meets its contract: each check that fails is the first that fails in `refusalOf`.
+use Prim.Native.Nat.{_*_, _<_}
+use native.Mathlib.Omega.{arith}
+use lib.ListN.{length}
 use borrow.Author.Needs.{needs}
 use borrow.Author.Tests.{le-leb, lt-leb}
 use Rattle.graphs.specs.Lists.{all}
@@ -52,11 +55,13 @@ returns-4 c =
     let size = c .before in
     let graph = size .before .before in
     let fit = graph .before .before in
+    let args = fit .before .before .before .before .before .args in
+    let short : args .lasso < 2 * length (args .flags .now) = omega (arith, c .if4 .taken) in
     rw (
       if-so (fit .before .workers-fit .ensures) (fit .if1 .left),
       if-so (graph .before .is-graph .ensures) (graph .if2 .left),
       le-leb _ _ (rw (size .before .room-size .ensures) at (size .if3 .left)),
-      lt-leb _ _ (c .if4 .taken),
+      lt-leb _ _ short,
     )
 
 returns-5 : tie.Need-returns-5

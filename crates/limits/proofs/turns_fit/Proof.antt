@@ -34,7 +34,8 @@ returns c =
     let here = turn .before .loop in
     let turns = turn .before .before .args .turns .now in
     let next = drop-cons turns (here .i) 0 (turn .loop-test .taken) in
-    sym (here .inv .1 ∙ rw (next, le-ltb (getD turns (here .i) 0) _ (c .if1 .taken)))
+    let high : turn .before .before .args .workers ≤ getD turns (here .i) 0 = omega (arith, c .if1 .taken) in
+    sym (here .inv .1 ∙ rw (next, le-ltb (getD turns (here .i) 0) _ high))
 
 add-i : tie.Need-add-i Inv-loop μ-loop
 add-i c = search needs
