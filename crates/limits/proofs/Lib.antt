@@ -1,2 +1,3 @@
--- What it means that no refusal is given.
+-- The refusals at work, and what it means that none is given.
+pub mod Cases
 pub mod Refused
