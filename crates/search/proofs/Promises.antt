@@ -27,7 +27,7 @@ use Rattle.ends.specs.declared.Outcome.{Outcome}
 use Rattle.ends.specs.Told.{Told, told-cycle, told-none, told-undecided, told-refusal, told, tellsOf, shown}
 use Rattle.search.specs.Outcomes.{Lent, lent, left, unless, outcome, outcomeToEnd}
 
--- the lent words and the tally of a run that is not refused, and of one that is
+-- what a refused run leaves, and what comes of `unless` either way
 abbrev refusedWith : ℕ → List ℕ → List ℕ → Tally → Lent
 refusedWith number l lasso t = record { tells = told-refusal number 0; room = l; lasso = lasso; tally = t }
 
