@@ -1,21 +1,16 @@
 -- The starting state's words: all 0.
 use Prim.Native.Nat.{ℕ, zero, suc, _+_, _*_}
 use mathlib.Core.Path.{_≡_, refl, ap, _∙_}
-use mathlib.Core.List.{List, _∷_, _++_}
+use mathlib.Core.List.{List, _++_}
 use lib.ListN.{replicate, replicate-append-replicate}
 use native.Mathlib.Nat.{suc-mul, zero-mul, sub-zero}
 use native.Mathlib.Omega.{arith}
-use Rattle.graphs.specs.Lists.{tab}
 use Rattle.moves.specs.Machine.{fresh, start}
+use Rattle.moves.proofs.Bits.{bits-empty}
 use Rattle.moves.specs.Room.{pile, span, stretch, spans, room, roomSize}
 
 zeros-on : (n k : ℕ) (l : List ℕ) → l ≡ replicate k 0 → replicate n 0 ++ l ≡ replicate (n + k) 0
 zeros-on n k l e = rw e (replicate-append-replicate n k 0)
-
-tab-zeros : (i n : ℕ) → tab i n (λ s. 0) ≡ replicate {A = ℕ} n 0
-unfolding tab
-tab-zeros i zero = refl
-tab-zeros i (suc n) = ap (λ l. 0 ∷ l) (tab-zeros (suc i) n)
 
 module _ (n : ℕ) where
   span-fresh : span n fresh ≡ replicate (stretch n) 0
@@ -23,7 +18,7 @@ module _ (n : ℕ) where
   span-fresh =
       let long : n + (n + (n + (n + (n + 4)))) ≡ stretch n = omega arith in
       let words = zeros-on n _ _ (zeros-on n _ _ (zeros-on n _ _ (zeros-on n _ _ (zeros-on n 4 _ refl)))) in
-      rw (tab-zeros 0 n, sub-zero n) (words ∙ ap (λ i. replicate i 0) long)
+      rw (bits-empty n, sub-zero n) (words ∙ ap (λ i. replicate i 0) long)
 
   spans-fresh : (q k : ℕ) → spans n q k (λ p. fresh) ≡ replicate (k * stretch n) 0
   unfolding spans
@@ -36,4 +31,4 @@ module _ (n : ℕ) where
   unfolding room
   fresh-room P =
       let long : n + (n + P * stretch n) ≡ roomSize n P = omega arith in
-      rw (tab-zeros 0 n) (zeros-on n _ _ (zeros-on n _ _ (spans-fresh 0 P)) ∙ ap (λ i. replicate i 0) long)
+      rw (bits-empty n) (zeros-on n _ _ (zeros-on n _ _ (spans-fresh 0 P)) ∙ ap (λ i. replicate i 0) long)

@@ -6,11 +6,11 @@ use mathlib.Core.List.{List, [], _∷_, _++_, append-assoc, reverse, reverse-app
 use lib.Dec.{eqb}
 use lib.ListN.{length, getD, take, drop, length-append, length-take, length-drop, length-reverse, List·getD-append}
 use lib.Seq.{ext-getD, getD-take, getD-drop, take-nil, drop-drop}
-use native.Mathlib.Nat.{suc-mul, mul-le-mul-right}
 use native.Mathlib.Omega.{arith}
 use Rattle.moves.specs.Machine.{Worker, Machine}
 use Rattle.moves.specs.Room.{pile, span, stretch, stretchAt}
 use Rattle.moves.specs.Run.{cycle, below, downTo, stemOf, loopOf}
+use Rattle.moves.proofs.Stretch.{stretch-inside}
 use Rattle.moves.proofs.Words.{Seen, own-word, outer-at, inner-at, last-at, long}
 use Rattle.ends.specs.Told.{told, tellsOf, shown}
 use Rattle.ends.specs.Lasso.{Stacked, outerDepth, innerDepth, outerWords, innerWords, placeDown, lassoIn, foundIn}
@@ -43,7 +43,7 @@ module _ (n P p : ℕ) (h : p < P) (m : Machine) (rest l : List ℕ) (seen : See
   a = stretchAt n p
 
   inside : a + stretch n ≤ length l
-  inside = omega (arith, long n P m rest l seen, suc-mul p (stretch n), mul-le-mul-right (stretch n) h)
+  inside = stretch-inside n P p (length l) h (omega (arith, long n P m rest l seen))
 
   -- the word i of the stretch
   own : (at i : ℕ) → at + i < stretch n → getD l (a + at + i) 0 ≡ getD (span n w) (at + i) 0

@@ -1,10 +1,12 @@
 -- The two ends of a run: where it stands before the first move, and what it tells after the last one. No entry
 -- point's contract cites this page.
-use Prim.Native.Nat.{ℕ}
+use Prim.Native.Nat.{ℕ, _≤_}
+use mathlib.Core.Path.{_≡_}
 use mathlib.Core.Bool.{cond}
 use mathlib.Core.List.{List, [], _++_}
 use lib.Dec.{eqb}
 use lib.ListN.{length, drop, replicate}
+use Rattle.graphs.specs.Words.{most-states}
 use Rattle.moves.specs.declared.Tally.{Tally}
 use Rattle.moves.specs.Tally.{zeroes}
 use Rattle.moves.specs.Room.{roomSize, stretchAt}
@@ -13,7 +15,7 @@ use Rattle.ends.specs.declared.Outcome.the-variants.{None, Undecided, No
 use Rattle.steps.specs.declared.Stop.{Stop}
 use Rattle.steps.specs.declared.Stop.the-variants.{Open, Quiet, Found, Refused}
 use Rattle.steps.specs.declared.Standing.{Standing}
-use Rattle.limits.specs.Refusals.{refusalOf}
+use Rattle.limits.specs.Refusals.{most-workers, refusalOf}
 use Rattle.ends.specs.Lasso.{Stacked, lassoIn, foundIn}
 use Rattle.steps.specs.Standing.{stopped, standingIn, standingOn}
 
@@ -28,6 +30,12 @@ begun l s = record { words = l; standing = s }
 -- refused, nothing changes; else the needed words are 0, which is the starting state
 abbrev pub begunBy : ℕ → ℕ → Standing → List ℕ → Beginning
 begunBy number size s l = cond (eqb number 0) (begun (replicate size 0 ++ drop size l) s) (begun l (stopped 0 (Refused number)))
+
+-- a run that is not refused has few states and workers, and the room that it needs
+pub record Opens (n P number : ℕ) (l : List ℕ) : Type 0 where
+  pub few-states : number ≡ 0 → n ≤ most-states
+  pub few-workers : number ≡ 0 → P ≤ most-workers
+  pub room-fits : number ≡ 0 → roomSize n P ≤ length l
 
 unfoldable pub begunIn : (lasso : ℕ) (turns offsets targets flags : List ℕ) (P : ℕ) → List ℕ → Beginning
 begunIn lasso turns offsets targets flags P l =

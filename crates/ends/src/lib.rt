@@ -14,7 +14,8 @@ use words::clear;
 ghost use mathlib.Core.Path.{_≡_};
 ghost use lib.ListN.{length};
 ghost use Rattle.moves.specs.Tally.{zeroes};
-ghost use Rattle.ends.specs.Ends.{begun, begunIn, begunOn, Finishing, resetOf, refusedBy, finishedLasso, finishedOutcome};
+ghost use Rattle.moves.specs.Room.{roomSize};
+ghost use Rattle.ends.specs.Ends.{begun, Opens, begunBy, begunIn, begunOn, Finishing, resetOf, refusedBy, finishedLasso, finishedOutcome};
 
 // What a run came to: an answer, with the turns used, or a refusal, in the order of 01's numbers 9 to 13.
 pub enum Outcome {
@@ -37,7 +38,25 @@ pub enum Outcome {
     NoSuchWorker,
 }
 
-// Sets the needed words to the starting state, unless the run is refused.
+// Sets the needed words to the starting state, where the run then stands at s, unless it is refused.
+fn begin(room: &mut [u16], n: usize, workers: usize, number: u16, s: Standing) -> Standing
+    requires { ⌜ Opens n workers number (now room) ⌝ }
+    ensures { λ r. ⌜ begun (now (room .exit)) r ≡ begunBy number (roomSize n workers) s (now (room .entry)) ⌝ }
+{
+    if number != 0 {
+        return Standing {
+            going: false,
+            next: 0,
+            used: 0,
+            stop: Stop::Refused(number),
+        };
+    }
+    let size = room_size(n, workers);
+    clear(&mut room[..size]);
+    s
+}
+
+// The beginning of a run over a turn list, and of the run to the end.
 pub fn prepare(
     room: &mut [u16],
     lasso: usize,
@@ -51,17 +70,8 @@ pub fn prepare(
         ≡ begunIn lasso (now (turns .entry)) (now (offsets .entry)) (now (targets .entry)) (now (flags .entry)) workers (now (room .entry)) ⌝ }
 {
     let number = refusal(room.len(), lasso, turns, offsets, targets, flags, workers);
-    if number != 0 {
-        return Standing {
-            going: false,
-            next: 0,
-            used: 0,
-            stop: Stop::Refused(number),
-        };
-    }
-    let size = room_size(flags.len(), workers);
-    clear(&mut room[..size]);
-    standing_in(turns, 0, Stop::Open)
+    let s = standing_in(turns, 0, Stop::Open);
+    begin(room, flags.len(), workers, number, s)
 }
 
 pub fn prepare_to_end(
@@ -76,17 +86,8 @@ pub fn prepare_to_end(
         ≡ begunOn lasso (now (offsets .entry)) (now (targets .entry)) (now (flags .entry)) workers (now (room .entry)) ⌝ }
 {
     let number = refusal_to_end(room.len(), lasso, offsets, targets, flags, workers);
-    if number != 0 {
-        return Standing {
-            going: false,
-            next: 0,
-            used: 0,
-            stop: Stop::Refused(number),
-        };
-    }
-    let size = room_size(flags.len(), workers);
-    clear(&mut room[..size]);
-    standing_on(0, 0, Stop::Open)
+    let s = standing_on(0, 0, Stop::Open);
+    begin(room, flags.len(), workers, number, s)
 }
 
 // 01: "It is set to 0 at the start", and a refused run changes no tally.

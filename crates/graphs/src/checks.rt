@@ -1,4 +1,5 @@
 // The parts of refusal 10's condition, a function each, named and ordered as in specs/Words.antt.
+use words::wide;
 ghost use mathlib.Core.Path.{_≡_};
 ghost use Prim.Native.Nat.{_+_, _<_, _≤_};
 ghost use lib.ListN.{length, getD};
@@ -113,10 +114,4 @@ fn word(words: &[u16], at: u16) -> usize
 {
     let i = wide(at);
     wide(words[i])
-}
-
-fn wide(x: u16) -> usize
-    ensures { λ r. ⌜ r ≡ x ⌝ }
-{
-    x as usize
 }

@@ -1,11 +1,16 @@
--- Laws of `bits`, the words of a set below n: their number, one store for one change, and that equal words come from equal sets and give them.
+-- Laws of `bits`, the words of a set below n: their number, one store for one change, that equal words come from equal sets and give them, and the
+-- words of no state and of one.
 use Prim.Native.Nat.{ℕ, _<_}
 use mathlib.Core.Path.{_≡_, refl, sym, _∙_, ap}
 use mathlib.Core.Bool.{Bool, true, false}
-use lib.ListN.{length, set}
+use lib.Dec.{eqb}
+use lib.ListN.{length, set, replicate, length-replicate, getD-replicate}
+use borrow.Author.Tests.{eq-eqb, ne-eqb}
 use Rattle.graphs.specs.Lists.{upd}
 use Rattle.graphs.proofs.Change.{upd-same, upd-other, upd-ind}
-use Rattle.graphs.proofs.Tab.{tab-long, tab-ext, tab-same, tab-upd}
+use Rattle.graphs.proofs.Tab.{tab-long, tab-is, tab-ext, tab-same, tab-upd}
+use Rattle.moves.specs.Machine.{empty}
+use Rattle.moves.specs.Changes.{only}
 use Rattle.moves.specs.Room.{bit, bits}
 
 bit-one : (a b : Bool) → bit a ≡ bit b → a ≡ b
@@ -29,3 +34,13 @@ module _ (n : ℕ) where
     where
       each : (t : ℕ) → bit (upd f s b t) ≡ upd (λ i. bit (f i)) s (bit b) t
       each = upd-ind (λ t a. bit a ≡ upd (λ i. bit (f i)) s (bit b) t) f s b (sym (upd-same _ s _)) (λ t ne. sym (upd-other _ s _ t ne))
+
+-- the words of no state, and of one state put where none is
+pub bits-empty : (n : ℕ) → bits n empty ≡ replicate n 0
+bits-empty n = tab-is n 0 (λ s. 0) (replicate n 0) (length-replicate n 0) (λ s h. sym (getD-replicate n s 0 0 h))
+
+pub bits-only : (n : ℕ) (r : ℕ → Bool) (s : ℕ) → ((x : ℕ) → r x ≡ false) → bits n (upd r s true) ≡ bits n (only s)
+unfolding only
+bits-only n r s none =
+    bits-ext n (upd r s true) (only s)
+    (λ x h. upd-ind (λ y b. b ≡ eqb y s) r s true (sym (eq-eqb s s refl)) (λ y ne. none y ∙ sym (ne-eqb y s ne)) x)

@@ -6,4 +6,5 @@ pub mod Bits
 pub mod Pile
 pub mod Room
 pub mod Stretch
+pub mod Parts
 pub mod Words

@@ -6,7 +6,7 @@ use mathlib.Core.Bool.{Bool, _||_}
 use mathlib.Core.List.{List, [], _∷_, _++_, append-assoc}
 use mathlib.Core.Logic.{_⊎_, inl, inr, _≢_}
 use lib.ListN.{length, getD}
-use native.Mathlib.Nat.{suc-mul, zero-add, sub-zero}
+use native.Mathlib.Nat.{suc-mul, mul-le-mul-right, zero-add, sub-zero}
 use native.Mathlib.Omega.{arith}
 use Rattle.graphs.specs.Lists.{upd}
 use Rattle.graphs.specs.Graph.{Graph}
@@ -18,7 +18,7 @@ use Rattle.moves.specs.declared.Move.{Move}
 use Rattle.moves.specs.Machine.{Worker, Machine}
 use Rattle.moves.specs.Changes.{put}
 use Rattle.moves.specs.Moves.{Made, onFirst, remaining, othersRed, move-1, move-2, move-3, move-4, move-5, move-6, move-7, turnAt, turn}
-use Rattle.moves.specs.Room.{bits, span, stretch, spans, room, stretchAt, Fits, AllFit}
+use Rattle.moves.specs.Room.{bits, span, stretch, spans, room, roomSize, stretchAt, Fits, AllFit}
 use Rattle.moves.proofs.Joined.{past, outside}
 use Rattle.moves.proofs.Bits.{bits-long}
 use Rattle.moves.proofs.Room.{span-long, spans-long, spans-ext}
@@ -73,6 +73,10 @@ module _ (n : ℕ) where
   room-put P p m w h =
       let e = rw (sub-zero, zero-add) at (spans-upd 0 P (m .worker) p w (omega arith) (omega arith)) in
       rw (e, append-assoc, append-assoc)
+
+-- a worker's stretch lies in the room
+pub stretch-inside : (n P p size : ℕ) → p < P → roomSize n P ≤ size → stretchAt n p + stretch n ≤ size
+stretch-inside n P p size h fits = omega (arith, mul-le-mul-right (stretch n) h, suc-mul p (stretch n))
 
 module _ (n P p : ℕ) (h : p < P) where
   room-past : (m : Machine) (i : ℕ) → 2 * n ≤ i → getD (room n P m) i 0 ≡ getD (spans n 0 P (m .worker)) (i - n - n) 0

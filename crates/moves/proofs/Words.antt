@@ -1,7 +1,7 @@
 -- What stands at a word of a stretch and of the room, and what a store there makes of the machine. `Seen` says that a list begins with the form
 -- of a machine of n states and P workers; its words beyond the form are `rest`.
-use Prim.Native.Nat.{ℕ, suc, _+_, _-_, _*_, _<_}
-use mathlib.Core.Path.{_≡_, refl, ap, subst, _∙_}
+use Prim.Native.Nat.{ℕ, suc, _+_, _-_, _*_, _<_, _≤_}
+use mathlib.Core.Path.{_≡_, refl, ap, _∙_}
 use mathlib.Core.Bool.{Bool, true, false}
 use mathlib.Core.List.{List, [], _∷_, _++_, append-assoc, reverse, reverse-cons}
 use lib.Dec.{eqb}
@@ -15,15 +15,9 @@ use Rattle.moves.specs.Changes.{put}
 use Rattle.moves.specs.Room.{bit, bits, pile, kindWord, seedWord, span, stretch, spans, room, roomSize, stretchAt, Fits, AllFit}
 use Rattle.moves.proofs.Bits.{bits-long, bits-upd}
 use Rattle.moves.proofs.Pile.{pile-long}
+use Rattle.moves.proofs.Parts.{Even, word-past, set-past, six-word-1, six-word-2, six-word-3, six-word-4, six-word-5, six-word-6}
 use Rattle.moves.proofs.Room.{span-long, room-long}
 use Rattle.moves.proofs.Stretch.{room-at, room-put}
-
--- a store past the n words of the first list
-pub set-past : (a b : List ℕ) (i v n : ℕ) → length a ≡ n → set (a ++ b) (n + i) v ≡ a ++ set b i v
-set-past [] b i v n e = let at : n + i ≡ i = omega arith in rw at
-set-past (x ∷ a) b i v n e =
-    let at : n + i ≡ suc (length a + i) = omega arith in
-    rw at (ap (λ k. x ∷ k) (set-past a b i v (length a) refl))
 
 -- a word that is 1 or 0 for a truth, tested
 pub bit-test : (b : Bool) → eqb (bit b) 1 ≡ b
@@ -35,101 +29,51 @@ pub pile-top : (n s : ℕ) (u : List ℕ) → getD (pile n (s ∷ u)) (length u)
 unfolding pile
 pile-top n s u = rw (reverse-cons s u, append-assoc) (getD-at (reverse u) s _ 0 (length u) (length-reverse u))
 
--- five parts of n words, and the rest
-record Parts (n : ℕ) : Type 0 where
-  a : List ℕ
-  b : List ℕ
-  c : List ℕ
-  d : List ℕ
-  e : List ℕ
-  q : List ℕ
-  a-long : length a ≡ n
-  b-long : length b ≡ n
-  c-long : length c ≡ n
-  d-long : length d ≡ n
-  e-long : length e ≡ n
-
 module _ (n : ℕ) where
-  onward : (a b : List ℕ) (i : ℕ) → length a ≡ n → getD (a ++ b) (n + i) 0 ≡ getD b i 0
-  onward a b i e = subst (λ k. getD (a ++ b) (k + i) 0 ≡ getD b i 0) e (getD-append-add a b i 0)
-
-  module _ (x : Parts n) where
-    abbrev joined : List ℕ
-    joined = x .a ++ (x .b ++ (x .c ++ (x .d ++ (x .e ++ x .q))))
-
-    from-b : (i : ℕ) → getD joined (n + i) 0 ≡ getD (x .b ++ (x .c ++ (x .d ++ (x .e ++ x .q)))) i 0
-    from-b i = onward (x .a) _ i (x .a-long)
-
-    from-c : (i : ℕ) → getD joined (2 * n + i) 0 ≡ getD (x .c ++ (x .d ++ (x .e ++ x .q))) i 0
-    from-c i = let at : 2 * n + i ≡ n + (n + i) = omega arith in rw at (from-b (n + i) ∙ onward (x .b) _ i (x .b-long))
-
-    from-d : (i : ℕ) → getD joined (3 * n + i) 0 ≡ getD (x .d ++ (x .e ++ x .q)) i 0
-    from-d i = let at : 3 * n + i ≡ 2 * n + (n + i) = omega arith in rw at (from-c (n + i) ∙ onward (x .c) _ i (x .c-long))
-
-    from-e : (i : ℕ) → getD joined (4 * n + i) 0 ≡ getD (x .e ++ x .q) i 0
-    from-e i = let at : 4 * n + i ≡ 3 * n + (n + i) = omega arith in rw at (from-d (n + i) ∙ onward (x .d) _ i (x .d-long))
-
-    at-q : (i : ℕ) → getD joined (5 * n + i) 0 ≡ getD (x .q) i 0
-    at-q i = let at : 5 * n + i ≡ 4 * n + (n + i) = omega arith in rw at (from-e (n + i) ∙ onward (x .e) _ i (x .e-long))
-
-    module _ (i : ℕ) (h : i < n) where
-      at-a : getD joined i 0 ≡ getD (x .a) i 0
-      at-a = List·getD-append (x .a) _ 0 i (omega (arith, x .a-long))
-
-      at-b : getD joined (n + i) 0 ≡ getD (x .b) i 0
-      at-b = from-b i ∙ List·getD-append (x .b) _ 0 i (omega (arith, x .b-long))
-
-      at-c : getD joined (2 * n + i) 0 ≡ getD (x .c) i 0
-      at-c = from-c i ∙ List·getD-append (x .c) _ 0 i (omega (arith, x .c-long))
-
-      at-d : getD joined (3 * n + i) 0 ≡ getD (x .d) i 0
-      at-d = from-d i ∙ List·getD-append (x .d) _ 0 i (omega (arith, x .d-long))
-
-      at-e : getD joined (4 * n + i) 0 ≡ getD (x .e) i 0
-      at-e = from-e i ∙ List·getD-append (x .e) _ 0 i (omega (arith, x .e-long))
+  -- each part of a stretch has n words
+  pub five : (k r : ℕ → Bool) (o i : List ℕ) (t : ℕ → ℕ) → length o ≤ n → length i ≤ n
+      → Even n (bits n k) (bits n r) (pile n o) (pile n i) (tab 0 n t)
+  five k r o i t outer-fits inner-fits =
+      record {
+        long-1 = bits-long n k;
+        long-2 = bits-long n r;
+        long-3 = pile-long n o outer-fits;
+        long-4 = pile-long n i inner-fits;
+        long-5 = tab-long 0 n t;
+      }
 
   -- the words of a stretch
   module _ (w : Worker) (fits : Fits n w) where
-    abbrev parts : Parts n
-    parts =
-        record {
-          a = bits n (w .cyan);
-          b = bits n (w .R);
-          c = pile n (w .outer);
-          d = pile n (w .inner);
-          e = tab 0 n (w .taken);
-          q = kindWord (w .place) ∷ seedWord (w .place) ∷ length (w .outer) ∷ length (w .inner) ∷ [];
-          a-long = bits-long n (w .cyan);
-          b-long = bits-long n (w .R);
-          c-long = pile-long n (w .outer) (fits .outer-fits);
-          d-long = pile-long n (w .inner) (fits .inner-fits);
-          e-long = tab-long 0 n (w .taken);
-        }
+    abbrev last : List ℕ
+    last = kindWord (w .place) ∷ seedWord (w .place) ∷ length (w .outer) ∷ length (w .inner) ∷ []
+
+    even : Even n (bits n (w .cyan)) (bits n (w .R)) (pile n (w .outer)) (pile n (w .inner)) (tab 0 n (w .taken))
+    even = five (w .cyan) (w .R) (w .outer) (w .inner) (w .taken) (fits .outer-fits) (fits .inner-fits)
 
     pub cyan-at : (s : ℕ) → s < n → getD (span n w) s 0 ≡ bit (w .cyan s)
     unfolding span
-    cyan-at s h = at-a parts s h ∙ tab-word n (λ x. bit (w .cyan x)) s 0 h
+    cyan-at s h = six-word-1 last even s h ∙ tab-word n (λ x. bit (w .cyan x)) s 0 h
 
     pub R-at : (s : ℕ) → s < n → getD (span n w) (n + s) 0 ≡ bit (w .R s)
     unfolding span
-    R-at s h = at-b parts s h ∙ tab-word n (λ x. bit (w .R x)) s 0 h
+    R-at s h = six-word-2 last even s h ∙ tab-word n (λ x. bit (w .R x)) s 0 h
 
     pub outer-at : (i : ℕ) → i < n → getD (span n w) (2 * n + i) 0 ≡ getD (pile n (w .outer)) i 0
     unfolding span
-    outer-at i h = at-c parts i h
+    outer-at i h = six-word-3 last even i h
 
     pub inner-at : (i : ℕ) → i < n → getD (span n w) (3 * n + i) 0 ≡ getD (pile n (w .inner)) i 0
     unfolding span
-    inner-at i h = at-d parts i h
+    inner-at i h = six-word-4 last even i h
 
     pub taken-at : (s : ℕ) → s < n → getD (span n w) (4 * n + s) 0 ≡ w .taken s
     unfolding span
-    taken-at s h = at-e parts s h ∙ tab-word n (w .taken) s 0 h
+    taken-at s h = six-word-5 last even s h ∙ tab-word n (w .taken) s 0 h
 
     -- the place and the depths
-    pub last-at : (i : ℕ) → getD (span n w) (5 * n + i) 0 ≡ getD (parts .q) i 0
+    pub last-at : (i : ℕ) → getD (span n w) (5 * n + i) 0 ≡ getD last i 0
     unfolding span
-    last-at i = at-q parts i
+    last-at i = six-word-6 last even i
 
     pub outer-top : (s : ℕ) (u : List ℕ) → w .outer ≡ s ∷ u → getD (span n w) (2 * n + (length (w .outer) - 1)) 0 ≡ s
     outer-top s u e =
@@ -196,7 +140,7 @@ module _ (n P : ℕ) (m : Machine) (rest l : List ℕ) (seen : Seen n P m rest l
   pub red-word : (s : ℕ) → s < n → getD l (n + s) 0 ≡ bit (m .red s)
   red-word s h =
       rw shared
-      (onward n (bits n (m .blue)) _ s (bits-long n (m .blue))
+      (word-past (bits n (m .blue)) _ n s (bits-long n (m .blue))
       ∙ List·getD-append (bits n (m .red)) _ 0 s (omega (arith, bits-long n (m .red)))
       ∙ tab-word n (λ x. bit (m .red x)) s 0 h)
 
@@ -211,6 +155,6 @@ module _ (n P : ℕ) (m : Machine) (rest l : List ℕ) (seen : Seen n P m rest l
       → set l (n + s) (bit b) ≡ room n P (record { blue = m .blue; red = upd (m .red) s b; worker = m .worker }) ++ rest
   unfolding room
   red-put s b h =
-      let past = set-past (bits n (m .blue)) (bits n (m .red) ++ (spans n 0 P (m .worker) ++ rest)) s (bit b) n (bits-long n (m .blue)) in
+      let own = set-append-left (bits n (m .red)) (spans n 0 P (m .worker) ++ rest) s (bit b) (omega (arith, bits-long n (m .red))) in
       rw (shared, bits-upd n (m .red) s b h, append-assoc, append-assoc)
-      (past ∙ ap (λ k. bits n (m .blue) ++ k) (set-append-left (bits n (m .red)) _ s (bit b) (omega (arith, bits-long n (m .red)))))
+      (set-past (bits n (m .blue)) (bits n (m .red) ++ (spans n 0 P (m .worker) ++ rest)) (bit b) s (n + s) (omega (arith, bits-long n (m .blue))) own)

@@ -1,8 +1,8 @@
 // Numbered pairs of words in lent lists: looking a pair up, and adding one, through chains of pairs of one bucket.
-mod words;
+mod buckets;
 
-use words::bucket;
-use words::is_pair;
+use buckets::bucket;
+use buckets::is_pair;
 use words::narrow;
 use words::wide;
 ghost use mathlib.Core.Path.{_≡_};

@@ -8,7 +8,6 @@ use mathlib.Core.Logic.{_⊎_, inl, inr, _≢_}
 use lib.ListN.{length, drop, take}
 use lib.Seq.{take-at, drop-at}
 use native.Mathlib.Omega.{arith}
-use borrow.Author.Tests.{ne-eqb}
 use Rattle.graphs.specs.Graph.{Graph, Sound}
 use Rattle.graphs.specs.Lasso.{Lasso, MarkedLoop}
 use Rattle.graphs.specs.Words.{graphOf, isGraph}
@@ -25,18 +24,8 @@ use Rattle.limits.specs.Refusals.{refusalOf, usual}
 use Rattle.limits.proofs.Refused.{fine}
 use Rattle.ends.specs.declared.Outcome.{Outcome}
 use Rattle.ends.specs.Told.{Told, told-cycle, told-none, told-undecided, told-refusal, told, tellsOf, shown}
-use Rattle.search.specs.Outcomes.{Lent, lent, left, unless, outcome, outcomeToEnd}
-
--- what a refused run leaves, and what comes of `unless` either way
-abbrev refusedWith : ℕ → List ℕ → List ℕ → Tally → Lent
-refusedWith number l lasso t = record { tells = told-refusal number 0; room = l; lasso = lasso; tally = t }
-
-module _ (number : ℕ) (r : Lent) (l lasso : List ℕ) (t : Tally) where
-  unless-not : number ≢ 0 → unless number r l lasso t ≡ refusedWith number l lasso t
-  unless-not ne = rw (ne-eqb number 0 ne)
-
-  unless-0 : number ≡ 0 → unless number r l lasso t ≡ r
-  unless-0 z = rw z
+use Rattle.search.specs.Outcomes.{lent, left, unless, outcome, outcomeToEnd}
+use Rattle.search.proofs.Whole.{refusedWith, unless-0, unless-not}
 
 -- a told answer is not a refusal
 abbrev refuses : Told → ℕ

@@ -23,7 +23,7 @@ use Rattle.steps.specs.declared.Stop.{Stop}
 use Rattle.steps.specs.declared.Stop.the-variants.{Open, Quiet, Found, Refused}
 use Rattle.steps.specs.declared.Standing.{Standing}
 use Rattle.ends.specs.Told.{told, told-refusal, tellsOf, shown}
-use Rattle.search.specs.Outcomes.{lent, left, unless}
+use Rattle.search.specs.Outcomes.{Lent, lent, left, unless}
 use Rattle.steps.specs.Verdict.{answerOf}
 use Rattle.steps.specs.Standing.{Finds, stopped, after, Stood, TallyOf}
 use Rattle.search.specs.Turns.{Underway, Begun, Ended}
@@ -33,6 +33,17 @@ use Rattle.ends.proofs.Fresh.{fresh-room}
 use Rattle.ends.proofs.Shown.{shown-words, found-told, stacked-fits}
 use Rattle.steps.proofs.Stood.{standing-used, standing-stop, named-first, stood-start, at-end}
 use Rattle.search.proofs.Opened.{Opened}
+
+-- what a refused run leaves, and what comes of `unless` either way
+abbrev pub refusedWith : ℕ → List ℕ → List ℕ → Tally → Lent
+refusedWith number l lasso t = record { tells = told-refusal number 0; room = l; lasso = lasso; tally = t }
+
+module _ (number : ℕ) (r : Lent) (l lasso : List ℕ) (t : Tally) where
+  pub unless-not : number ≢ 0 → unless number r l lasso t ≡ refusedWith number l lasso t
+  unless-not ne = rw (ne-eqb number 0 ne)
+
+  pub unless-0 : number ≡ 0 → unless number r l lasso t ≡ r
+  unless-0 z = rw z
 
 module _ (offsets targets flags turns : List ℕ) (P number : ℕ) (low : (number ≡ 0) ⊎ ((9 ≤ number) × (number ≤ 13))) (l lasso : List ℕ) (t : Tally)
     (s : Standing) (l₁ : List ℕ) (t₁ : Tally) (from : Opened offsets targets flags turns P number (length lasso) l s l₁) (reset : t₁ ≡ resetOf t s) where
@@ -151,7 +162,7 @@ module _ (offsets targets flags turns : List ℕ) (P number : ℕ) (low : (numbe
           let tally-is : t₂ ≡ run g P turns .tally = last-both z .1 ∙ ap (λ k. k .tally) (whole z) in
           rw (told-is, lasso-is, tally-is, room-is)
 
-      ran-refused : number ≢ 0 → 9 ≤ number → number ≤ 13 → lent r l₂ lasso′ t₂ ≡ record { tells = told-refusal number 0; room = l; lasso = lasso; tally = t }
+      ran-refused : number ≢ 0 → 9 ≤ number → number ≤ 13 → lent r l₂ lasso′ t₂ ≡ refusedWith number l lasso t
       ran-refused ne low high =
           let same = stays ne in
           let told-is : told r ≡ told-refusal number 0 = ap told (tells ∙ ap (λ k. finishedOutcome n k l₂) (same .0)) ∙ refused-told number low high in
@@ -162,7 +173,7 @@ module _ (offsets targets flags turns : List ℕ) (P number : ℕ) (low : (numbe
       ran-of = go low
         where
           go : (number ≡ 0) ⊎ ((9 ≤ number) × (number ≤ 13)) → lent r l₂ lasso′ t₂ ≡ unless number (left n P (run g P turns) l lasso) l lasso t
-          go (inl z) = ran-whole z ∙ sym (ap (λ k. unless k (left n P (run g P turns) l lasso) l lasso t) z)
+          go (inl z) = ran-whole z ∙ sym (unless-0 number (left n P (run g P turns) l lasso) l lasso t z)
           go (inr (a, b)) =
               let ne : number ≢ 0 = λ z. omega arith in
-              ran-refused ne a b ∙ rw (ne-eqb number 0 ne)
+              ran-refused ne a b ∙ sym (unless-not number (left n P (run g P turns) l lasso) l lasso t ne)

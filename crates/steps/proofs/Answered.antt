@@ -5,7 +5,6 @@ use mathlib.Core.Bool.{Bool, true, false, cond}
 use mathlib.Core.List.{List}
 use lib.Dec.{eqb}
 use lib.ListN.{length}
-use native.Mathlib.Nat.{suc-mul, mul-le-mul-right}
 use native.Mathlib.Omega.{arith}
 use Rattle.graphs.proofs.Every.{every-ext}
 use Rattle.graphs.proofs.Tests.{cond-ind}
@@ -20,7 +19,7 @@ use Rattle.moves.specs.Place.{isDone}
 use Rattle.moves.specs.Machine.{Machine}
 use Rattle.moves.specs.Changes.{takes}
 use Rattle.moves.specs.Moves.{Made, turn}
-use Rattle.moves.specs.Room.{kindWord, stretchAt, stretch, roomSize}
+use Rattle.moves.specs.Room.{kindWord, stretchAt, roomSize}
 use Rattle.moves.specs.Run.{none, undecided, allDone, quiet, answerTo}
 use Rattle.moves.proofs.Words.{Seen, own-word, last-at, long}
 use Rattle.theory.specs.Rules.{Rule, by-start, by-skip, by-enter, by-leave, by-seed, by-hit, by-pass, by-join, by-back, by-paint, by-wait}
@@ -32,10 +31,6 @@ use Rattle.steps.specs.declared.Stop.the-variants.{Open, Quiet}
 use Rattle.steps.specs.Verdict.{answerOf, allDoneIn, quietIn, verdictIn, quietStop, stopTo}
 use Rattle.steps.specs.declared.played.Played.{Played}
 use Rattle.steps.specs.Standing.{Finds, Held, PlayedOn}
-
--- a worker's stretch lies in the room
-pub stretch-inside : (n P q size : ℕ) → q < P → roomSize n P ≤ size → stretchAt n q + stretch n ≤ size
-stretch-inside n P q size h fits = omega (arith, mul-le-mul-right (stretch n) h, suc-mul q (stretch n))
 
 kind-done : (q : Place) → eqb (kindWord q) 4 ≡ isDone q
 kind-done Fresh = refl

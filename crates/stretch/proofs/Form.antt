@@ -1,37 +1,25 @@
 -- Laws of `form`, the words of a stretch over any sets, stacks, counts and last four words: each store of a move changes one of these.
 use Prim.Native.Nat.{ℕ, _+_, _*_, _<_, _≤_}
-use mathlib.Core.Path.{_≡_, refl, sym, _∙_}
+use mathlib.Core.Path.{_≡_, refl, _∙_}
 use mathlib.Core.Bool.{Bool, true, false}
 use mathlib.Core.List.{List, [], _∷_}
-use lib.Dec.{eqb}
-use lib.ListN.{length, getD, set, replicate, length-replicate, getD-replicate}
-use borrow.Author.Tests.{eq-eqb, ne-eqb}
+use lib.ListN.{length, getD, set, replicate}
 use native.Mathlib.Omega.{arith}
 use Rattle.graphs.specs.Lists.{tab, upd}
-use Rattle.graphs.proofs.Change.{upd-ind}
-use Rattle.graphs.proofs.Tab.{tab-long, tab-word, tab-is, tab-upd}
+use Rattle.graphs.proofs.Tab.{tab-word, tab-upd}
 use Rattle.moves.specs.Machine.{Worker, empty}
 use Rattle.moves.specs.Changes.{only}
 use Rattle.moves.specs.Room.{bit, bits, pile, kindWord, seedWord, span}
-use Rattle.moves.proofs.Bits.{bits-long, bits-ext, bits-upd}
-use Rattle.moves.proofs.Pile.{pile-long, pile-push, pile-pop}
+use Rattle.moves.proofs.Bits.{bits-upd, bits-empty, bits-only}
+use Rattle.moves.proofs.Pile.{pile-push, pile-pop}
+use Rattle.moves.proofs.Parts.{six, Even, six-set-1, six-set-2, six-set-3, six-set-4, six-set-5, six-set-6, six-word-5, six-put-2}
+use Rattle.moves.proofs.Words.{five}
 use Rattle.stretch.specs.declared.Own.{Own}
 use Rattle.stretch.specs.Stores.{putWords, clearWords}
-use Rattle.stretch.proofs.Parts.{six, Even, six-set-1, six-set-2, six-set-3, six-set-4, six-set-5, six-set-6, six-word-5, six-put-2}
 
 -- cyan k and R r, the outer stack o and the inner stack i, the counts t, and the words q after them
 unfoldable pub form : ℕ → (ℕ → Bool) → (ℕ → Bool) → List ℕ → List ℕ → (ℕ → ℕ) → List ℕ → List ℕ
 form n k r o i t q = six (bits n k) (bits n r) (pile n o) (pile n i) (tab 0 n t) q
-
--- the words of no state, and of one state put where none is
-bits-empty : (n : ℕ) → bits n empty ≡ replicate n 0
-bits-empty n = tab-is n 0 (λ s. 0) (replicate n 0) (length-replicate n 0) (λ s h. sym (getD-replicate n s 0 0 h))
-
-bits-only : (n : ℕ) (r : ℕ → Bool) (s : ℕ) → ((x : ℕ) → r x ≡ false) → bits n (upd r s true) ≡ bits n (only s)
-unfolding only
-bits-only n r s none =
-    bits-ext n (upd r s true) (only s)
-    (λ x h. upd-ind (λ y b. b ≡ eqb y s) r s true (sym (eq-eqb s s refl)) (λ y ne. none y ∙ sym (ne-eqb y s ne)) x)
 
 module _ (n : ℕ) where
   pub span-form : (w : Worker)
@@ -41,21 +29,9 @@ module _ (n : ℕ) where
   unfolding span form
   span-form w = refl
 
-  -- each part has n words
-  five : (k r : ℕ → Bool) (o i : List ℕ) (t : ℕ → ℕ) → length o ≤ n → length i ≤ n
-      → Even n (bits n k) (bits n r) (pile n o) (pile n i) (tab 0 n t)
-  five k r o i t outer-fits inner-fits =
-      record {
-        long-1 = bits-long n k;
-        long-2 = bits-long n r;
-        long-3 = pile-long n o outer-fits;
-        long-4 = pile-long n i inner-fits;
-        long-5 = tab-long 0 n t;
-      }
-
   module _ (k r : ℕ → Bool) (o i : List ℕ) (t : ℕ → ℕ) (q : List ℕ) (outer-fits : length o ≤ n) (inner-fits : length i ≤ n) where
     even : Even n (bits n k) (bits n r) (pile n o) (pile n i) (tab 0 n t)
-    even = five k r o i t outer-fits inner-fits
+    even = five n k r o i t outer-fits inner-fits
 
     form-cyan : (b : Bool) (s : ℕ) → s < n → set (form n k r o i t q) s (bit b) ≡ form n (upd k s b) r o i t q
     unfolding form
@@ -77,7 +53,7 @@ module _ (n : ℕ) where
 
     pub form-outer-pop : (x : ℕ) → length o < n → set (form n k r (x ∷ o) i t q) (2 * n + length o) 0 ≡ form n k r o i t q
     unfolding form
-    form-outer-pop x h = rw (pile-pop n o x h) (six-set-3 q (five k r (x ∷ o) i t h inner-fits) (length o) 0 h)
+    form-outer-pop x h = rw (pile-pop n o x h) (six-set-3 q (five n k r (x ∷ o) i t h inner-fits) (length o) 0 h)
 
     pub form-inner-push : (x : ℕ) → length i < n → set (form n k r o i t q) (3 * n + length i) x ≡ form n k r o (x ∷ i) t q
     unfolding form
@@ -85,7 +61,7 @@ module _ (n : ℕ) where
 
     pub form-inner-pop : (x : ℕ) → length i < n → set (form n k r o (x ∷ i) t q) (3 * n + length i) 0 ≡ form n k r o i t q
     unfolding form
-    form-inner-pop x h = rw (pile-pop n i x h) (six-set-4 q (five k r o (x ∷ i) t outer-fits h) (length i) 0 h)
+    form-inner-pop x h = rw (pile-pop n i x h) (six-set-4 q (five n k r o (x ∷ i) t outer-fits h) (length i) 0 h)
 
     pub form-taken : (s v : ℕ) → s < n → set (form n k r o i t q) (4 * n + s) v ≡ form n k r o i (upd t s v) q
     unfolding form

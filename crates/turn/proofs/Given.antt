@@ -5,7 +5,7 @@ use mathlib.Core.Bool.{true}
 use mathlib.Core.List.{List, [], _∷_}
 use mathlib.Core.Logic.{inl}
 use lib.ListN.{length, getD, length-drop}
-use native.Mathlib.Nat.{suc-mul, mul-le-mul-right, add-zero}
+use native.Mathlib.Nat.{add-zero}
 use native.Mathlib.Omega.{arith}
 use Rattle.graphs.specs.Graph.{Graph, graph, Sound}
 use Rattle.graphs.specs.Words.{graphOf, isGraph, most-states, most-transitions}
@@ -14,6 +14,7 @@ use Rattle.moves.specs.Machine.{Worker, Machine}
 use Rattle.moves.specs.Moves.{remaining, turn}
 use Rattle.moves.specs.Room.{bit, kindWord, seedWord, span, stretch, stretchAt, Fits, AllFit}
 use Rattle.moves.proofs.Room.{place-words}
+use Rattle.moves.proofs.Stretch.{stretch-inside}
 use Rattle.moves.proofs.Words.{Seen, long, own-word, cyan-at, R-at, taken-at, last-at, outer-top, inner-top}
 use Rattle.theory.specs.Rules.{Outermost, Innermost}
 use Rattle.theory.specs.Turns.{AllShallow}
@@ -79,7 +80,7 @@ module _ {offsets targets flags : List ℕ} {P p : ℕ} {m : Machine} {rest l : 
   after = omega arith
 
   pub inside : a + stretch n ≤ length l
-  inside = omega (arith, long n P m rest l seen, mul-le-mul-right (stretch n) (x .named), suc-mul p (stretch n))
+  inside = stretch-inside n P p (length l) (x .named) (omega (arith, long n P m rest l seen))
 
   -- the stacks hold states
   pub outer-state : (s : ℕ) (u : List ℕ) → Outermost p m s u → s < n

@@ -11,7 +11,7 @@ use Rattle.graphs.specs.Lists.{every}
 use Rattle.graphs.proofs.Every.{every-more, every-not}
 use Rattle.moves.specs.Room.{stretchAt}
 use Rattle.steps.specs.Verdict.{allDoneIn}
-use Rattle.steps.proofs.Answered.{stretch-inside}
+use Rattle.moves.proofs.Stretch.{stretch-inside}
 use Rattle.steps.proofs.played.all_done.Statement.{statement}
 use Rattle.steps.proofs.played.all_done.Tie as tie
 

@@ -1,15 +1,17 @@
--- Laws of six joined lists, of which the first five have n words each: a store goes into one of them, a word of the fifth is read, and the second
--- is replaced.
+-- Laws of six joined lists, of which the first five have n words each: a word is that of one of them, a store goes into one of them, and the second is
+-- replaced. A worker's stretch is such a list.
 use Prim.Native.Nat.{ℕ, suc, _+_, _-_, _*_, _<_}
-use mathlib.Core.Path.{_≡_, refl, ap, _∙_}
+use mathlib.Core.Path.{_≡_, refl, ap, subst, _∙_}
 use mathlib.Core.List.{List, [], _∷_, _++_}
 use lib.ListN.{length, getD, set, take, drop, List·getD-append}
-use lib.Seq.{set-append-left, take-at, drop-at}
+use lib.Seq.{getD-append-add, set-append-left, take-at, drop-at}
 use native.Mathlib.Omega.{arith}
-use Rattle.moves.proofs.Joined.{past}
 
--- the store at j, past the words of a, is that at i in what follows them
-set-past : (a b : List ℕ) {b′ : List ℕ} (v i j : ℕ) → j ≡ length a + i → set b i v ≡ b′ → set (a ++ b) j v ≡ a ++ b′
+-- the word past the n words of a, and the store at j past them, are those at i in what follows them
+pub word-past : (a b : List ℕ) (n i : ℕ) → length a ≡ n → getD (a ++ b) (n + i) 0 ≡ getD b i 0
+word-past a b n i e = subst (λ k. getD (a ++ b) (k + i) 0 ≡ getD b i 0) e (getD-append-add a b i 0)
+
+pub set-past : (a b : List ℕ) {b′ : List ℕ} (v i j : ℕ) → j ≡ length a + i → set b i v ≡ b′ → set (a ++ b) j v ≡ a ++ b′
 set-past [] b v i j e h = let q : j ≡ i = omega arith in rw q h
 set-past (x ∷ a) b v i j e h = let q : j ≡ suc (length a + i) = omega arith in rw q (ap (λ l. x ∷ l) (set-past a b v i (length a + i) refl h))
 
@@ -51,14 +53,36 @@ module _ {n : ℕ} {a b c d e : List ℕ} (q : List ℕ) (even : Even n a b c d 
         (set-past b _ v (3 * n + i) _ (omega arith)
         (set-past c _ v (2 * n + i) _ (omega arith) (set-past d _ v (n + i) _ (omega arith) (set-past e _ v i _ (omega arith) refl))))
 
-  pub six-word-5 : (i : ℕ) → i < n → getD (six a b c d e q) (4 * n + i) 0 ≡ getD e i 0
-  six-word-5 i h =
-      let first = past a (b ++ (c ++ (d ++ (e ++ q)))) n (4 * n + i) (even .long-1) (omega arith) in
-      let second = past b (c ++ (d ++ (e ++ q))) n (4 * n + i - n) (even .long-2) (omega arith) in
-      let third = past c (d ++ (e ++ q)) n (4 * n + i - n - n) (even .long-3) (omega arith) in
-      let fourth = past d (e ++ q) n (4 * n + i - n - n - n) (even .long-4) (omega arith) in
-      let at : 4 * n + i - n - n - n - n ≡ i = omega arith in
-      first ∙ second ∙ third ∙ fourth ∙ rw at (List·getD-append e q 0 i (omega arith))
+  from-2 : (i : ℕ) → getD (six a b c d e q) (n + i) 0 ≡ getD (b ++ (c ++ (d ++ (e ++ q)))) i 0
+  from-2 i = word-past a _ n i (even .long-1)
+
+  from-3 : (i : ℕ) → getD (six a b c d e q) (2 * n + i) 0 ≡ getD (c ++ (d ++ (e ++ q))) i 0
+  from-3 i = let at : 2 * n + i ≡ n + (n + i) = omega arith in rw at (from-2 (n + i) ∙ word-past b _ n i (even .long-2))
+
+  from-4 : (i : ℕ) → getD (six a b c d e q) (3 * n + i) 0 ≡ getD (d ++ (e ++ q)) i 0
+  from-4 i = let at : 3 * n + i ≡ 2 * n + (n + i) = omega arith in rw at (from-3 (n + i) ∙ word-past c _ n i (even .long-3))
+
+  from-5 : (i : ℕ) → getD (six a b c d e q) (4 * n + i) 0 ≡ getD (e ++ q) i 0
+  from-5 i = let at : 4 * n + i ≡ 3 * n + (n + i) = omega arith in rw at (from-4 (n + i) ∙ word-past d _ n i (even .long-4))
+
+  pub six-word-6 : (i : ℕ) → getD (six a b c d e q) (5 * n + i) 0 ≡ getD q i 0
+  six-word-6 i = let at : 5 * n + i ≡ 4 * n + (n + i) = omega arith in rw at (from-5 (n + i) ∙ word-past e _ n i (even .long-5))
+
+  module _ (i : ℕ) (h : i < n) where
+    pub six-word-1 : getD (six a b c d e q) i 0 ≡ getD a i 0
+    six-word-1 = List·getD-append a _ 0 i (omega (arith, even .long-1))
+
+    pub six-word-2 : getD (six a b c d e q) (n + i) 0 ≡ getD b i 0
+    six-word-2 = from-2 i ∙ List·getD-append b _ 0 i (omega (arith, even .long-2))
+
+    pub six-word-3 : getD (six a b c d e q) (2 * n + i) 0 ≡ getD c i 0
+    six-word-3 = from-3 i ∙ List·getD-append c _ 0 i (omega (arith, even .long-3))
+
+    pub six-word-4 : getD (six a b c d e q) (3 * n + i) 0 ≡ getD d i 0
+    six-word-4 = from-4 i ∙ List·getD-append d _ 0 i (omega (arith, even .long-4))
+
+    pub six-word-5 : getD (six a b c d e q) (4 * n + i) 0 ≡ getD e i 0
+    six-word-5 = from-5 i ∙ List·getD-append e _ 0 i (omega (arith, even .long-5))
 
   pub six-put-2 : (b′ : List ℕ) → take n (six a b c d e q) ++ (b′ ++ drop n (drop n (six a b c d e q))) ≡ six a b′ c d e q
   six-put-2 b′ = rw (take-at a _ n (even .long-1), drop-at a _ n (even .long-1), drop-at b _ n (even .long-2))

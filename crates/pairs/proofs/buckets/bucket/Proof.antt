@@ -3,8 +3,8 @@ use mathlib.Core.Path.{refl}
 use borrow.Author.Needs.{needs}
 use Rattle.pairs.specs.Pairs.{bucketOf}
 use Rattle.pairs.proofs.Chain.{bucket-low}
-use Rattle.pairs.proofs.words.bucket.Statement.{statement}
-use Rattle.pairs.proofs.words.bucket.Tie as tie
+use Rattle.pairs.proofs.buckets.bucket.Statement.{statement}
+use Rattle.pairs.proofs.buckets.bucket.Tie as tie
 
 mul-result : tie.Need-mul-result
 mul-result c = search needs

@@ -2,8 +2,8 @@
 use borrow.Author.Needs.{needs}
 use borrow.Author.Tests.{eq-eqb, ne-eqb}
 use Rattle.pairs.specs.Pairs.{isPair}
-use Rattle.pairs.proofs.words.is_pair.Statement.{statement}
-use Rattle.pairs.proofs.words.is_pair.Tie as tie
+use Rattle.pairs.proofs.buckets.is_pair.Statement.{statement}
+use Rattle.pairs.proofs.buckets.is_pair.Tie as tie
 
 mul-if1 : tie.Need-mul-if1
 mul-if1 c = search needs

@@ -1,4 +1,4 @@
-// The bucket of a pair, the test of a number's pair, and words of 16 bits as numbers and back.
+// The bucket of a pair, and the test of a number's pair.
 ghost use mathlib.Core.Path.{_≡_};
 ghost use Prim.Native.Nat.{_<_};
 ghost use lib.ListN.{length};
@@ -19,17 +19,4 @@ pub fn is_pair(first: &[usize], second: &[usize], i: usize, a: usize, b: usize) 
         return false;
     }
     second[i] == b
-}
-
-pub fn wide(x: u16) -> usize
-    ensures { λ r. ⌜ r ≡ x ⌝ }
-{
-    x as usize
-}
-
-pub fn narrow(x: usize) -> u16
-    requires { ⌜ x < 65536 ⌝ }
-    ensures { λ r. ⌜ r ≡ x ⌝ }
-{
-    x as u16
 }
