@@ -16,9 +16,9 @@ use Rattle.graphs.proofs.Tests.{below?}
 use Rattle.graphs.proofs.Words.{words-are, words-sound, edges-are}
 use Rattle.moves.specs.Moves.{turn}
 use Rattle.moves.specs.Run.{cycle, none, undecided, begin, next, step, runFrom, run, rounds, runRounds}
-use Rattle.theory.specs.Turns.{Named, Cut, CanMove, Counts, mostMoves, runToEnd, wordOf, word-cycle, Decided, Stands, AllShallow}
+use Rattle.theory.specs.Turns.{Named, Cut, CanMove, Counts, mostMoves, runToEnd, wordOf, word-cycle, Decided, Stands, AllShallow, SeedsInside}
 use Rattle.theory.proofs.Run.{decided, run-join, step-goes, run-stays, all-used, used-turns, words-agree, word-finds}
-use Rattle.theory.proofs.Run.{run-stands, begin-stands, run-shallow}
+use Rattle.theory.proofs.Run.{run-stands, begin-stands, run-shallow, run-seeds}
 use Rattle.theory.proofs.Ends.{can-move, change-differs, step-counts, run-paid, cut-ends, rounds-named, rounds-cut, rounds-longer}
 use Rattle.theory.proofs.Total.{start-total}
 
@@ -106,6 +106,10 @@ module _ (g : Graph) (P : ℕ) where
     -- Both stacks are at most N deep and hold only states, wherever turns lead, with an answer or without.
     pub stacks-shallow : (l : List ℕ) → Named P l → AllShallow g (run g P l .machine)
     stacks-shallow = run-shallow g P sound some
+
+    -- And so is every seed a state.
+    pub seeds-inside : (l : List ℕ) → Named P l → SeedsInside g (run g P l .machine)
+    seeds-inside = run-seeds g P sound some
 
 -- The same of words that are a graph: N is the number of flags, E the number of targets.
 module _ (offsets targets flags : List ℕ) (is : isGraph offsets targets flags ≡ true) where

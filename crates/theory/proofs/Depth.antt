@@ -1,6 +1,6 @@
--- A worker's stacks and its set R hold only states; and as nothing stands twice in a stack, no stack is deeper than there are states.
+-- A worker's stacks and its set R hold only states, and its seed is one; and as nothing stands twice in a stack, no stack is deeper than there are states.
 use Prim.Native.Nat.{ℕ, _<_, _≤_}
-use mathlib.Core.Path.{_≡_, refl}
+use mathlib.Core.Path.{_≡_, refl, sym}
 use mathlib.Core.Bool.{Bool, true}
 use mathlib.Core.Logic.{_⊎_, inl, inr}
 use lib.ListN.{length}
@@ -13,7 +13,7 @@ use Rattle.moves.specs.declared.Place.{Place}
 use Rattle.moves.specs.declared.Place.the-variants.{Fresh, Outer, Inner, Waiting, Done}
 use Rattle.moves.specs.Machine.{Worker}
 use Rattle.theory.specs.Stacks.{Shallow}
-use Rattle.theory.specs.Invariant.{Within, here, onward, Calm, Hunt, Phase, Local}
+use Rattle.theory.specs.Invariant.{Within, here, onward, Calm, Hunt, Phase, Local, SeedAt}
 use Rattle.theory.proofs.Trail.{stacked-inside}
 
 pub within-walk : {g : Graph} {set : ℕ → Bool} {s t : ℕ} → Within g set s t → Walk g s t
@@ -48,6 +48,16 @@ module _ {g : Graph} {blue : ℕ → Bool} {dead : ℕ → Type 0} {p : ℕ} {w 
 
   pub seed-inside : {z : ℕ} → Hunt g blue dead p w z → z < g .size
   seed-inside {z} h = outer-inside z (rw (h .top) (inl refl))
+
+  pub seed-below : (z : ℕ) → SeedAt (w .place) z → z < g .size
+  seed-below z = go (w .place) (l .phase)
+    where
+      go : (q : Place) → Phase g blue dead p w q → SeedAt q z → z < g .size
+      go Fresh f s = absurd s
+      go Outer f s = absurd s
+      go (Inner y) f s = rw (sym s) (seed-inside (f .0))
+      go (Waiting y) f s = rw (sym s) (seed-inside (f .0))
+      go Done f s = absurd s
 
   pub R-inside : (x : ℕ) → w .R x ≡ true → x < g .size
   R-inside x e = go (calm-or-hunt l)

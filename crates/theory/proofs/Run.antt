@@ -21,10 +21,10 @@ use Rattle.moves.specs.Moves.{Made, turn}
 use Rattle.moves.specs.Run.{Answer, cycle, none, undecided, allDone, quiet, answerTo, Result, begin, next, unlessAnswered, step, runFrom, run}
 use Rattle.theory.specs.Rules.{Hits}
 use Rattle.theory.specs.Stacks.{Shallow}
-use Rattle.theory.specs.Invariant.{Invariant}
-use Rattle.theory.specs.Turns.{Named, wordOf, word-cycle, Decided, Right, Stands, AllShallow}
+use Rattle.theory.specs.Invariant.{SeedAt, Invariant}
+use Rattle.theory.specs.Turns.{Named, wordOf, word-cycle, Decided, Right, Stands, AllShallow, SeedsInside}
 use Rattle.theory.proofs.Rules.{obeys}
-use Rattle.theory.proofs.Depth.{local-shallow}
+use Rattle.theory.proofs.Depth.{local-shallow, seed-below}
 use Rattle.theory.proofs.Hit.{hit-lasso, hit-once}
 use Rattle.theory.proofs.Whole.{Keeps, keeps, begins, none-right}
 use Rattle.theory.proofs.Idle.{is-done}
@@ -162,6 +162,17 @@ module _ (g : Graph) (P : ℕ) where
               (upd-ind (λ q w. Shallow (g .size) (w .outer) (w .inner)) (m .worker) p (takes (m .worker p) (k .top))
               (local-shallow sound (v .local p)) (λ q ne. local-shallow sound (v .local q)))
 
+      -- and so is every seed a state
+      pub turn-seeds : SeedsInside g (turn g p m .machine)
+      turn-seeds = go (turn g p m) kept
+        where
+          go : (a : Made) → Keeps g P p a ⊎ Hits g p m a → SeedsInside g (a .machine)
+          go a (inl k) = λ q. seed-below sound (k .0 .local q)
+          go a (inr k) =
+              rw (k .made)
+              (upd-ind (λ q w. (z : ℕ) → SeedAt (w .place) z → z < g .size) (m .worker) p (takes (m .worker p) (k .top))
+              (seed-below sound (v .local p)) (λ q ne. seed-below sound (v .local q)))
+
     pub step-stands : (r : Result) (p : ℕ) → p < P → Stands g P r → Stands g P (step g P r p)
     step-stands r p h st = step-ind (Stands g P) r p st (λ e. turn-right p (r .machine) h ((rw e at st) .0))
 
@@ -187,3 +198,8 @@ module _ (g : Graph) (P : ℕ) where
     run-shallow l n =
         run-ind (λ k. AllShallow g (k .machine)) (λ k p h v s. turn-shallow p (k .machine) h v) begin l n begin-stands
         (λ q. local-shallow sound (begins g P .local q))
+
+    pub run-seeds : (l : List ℕ) → Named P l → SeedsInside g (run g P l .machine)
+    run-seeds l n =
+        run-ind (λ k. SeedsInside g (k .machine)) (λ k p h v s. turn-seeds p (k .machine) h v) begin l n begin-stands
+        (λ q. seed-below sound (begins g P .local q))

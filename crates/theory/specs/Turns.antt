@@ -12,7 +12,7 @@ use Rattle.moves.specs.Moves.{turn}
 use Rattle.moves.specs.Tally.{changes}
 use Rattle.moves.specs.Run.{Answer, cycle, none, undecided, allDone, Result, runRounds}
 use Rattle.theory.specs.Stacks.{Shallow}
-use Rattle.theory.specs.Invariant.{Invariant}
+use Rattle.theory.specs.Invariant.{SeedAt, Invariant}
 
 -- every turn names a worker below P: what refusal 13 leaves
 abbrev pub Named : ℕ → List ℕ → Type 0
@@ -74,3 +74,7 @@ Stands g P r = Right g P (r .machine) (r .answer)
 -- every worker's stacks are at most N deep and hold only states
 abbrev pub AllShallow : Graph → Machine → Type 0
 AllShallow g m = (q : ℕ) → Shallow (g .size) (m .worker q .outer) (m .worker q .inner)
+
+-- every worker's seed is a state
+abbrev pub SeedsInside : Graph → Machine → Type 0
+SeedsInside g m = (q z : ℕ) → SeedAt (m .worker q .place) z → z < g .size
