@@ -1,13 +1,13 @@
--- A lasso shows that a loop through a mark can be reached.
-use Prim.Native.Nat.{ℕ}
+-- A lasso shows that a loop through a mark can be reached, and holds only states.
+use Prim.Native.Nat.{ℕ, _<_}
 use mathlib.Core.Path.{refl, sym}
 use mathlib.Core.List.{List, [], _∷_, _++_}
 use mathlib.Core.Logic.{inl, inr}
 use Rattle.graphs.specs.Lists.{Mem}
-use Rattle.graphs.specs.Graph.{Graph, Walk, stay, step, Far}
+use Rattle.graphs.specs.Graph.{Graph, Walk, stay, step, Far, Sound}
 use Rattle.graphs.specs.Lasso.{Begins, Linked, Chain, final, Closes, Lasso, MarkedLoop}
 use Rattle.graphs.proofs.Member.{mem-right}
-use Rattle.graphs.proofs.Walk.{walk-far, far-join, edge-far}
+use Rattle.graphs.proofs.Walk.{walk-far, far-join, edge-far, walk-inside}
 
 module _ (g : Graph) where
   -- along a chain one walks from its first to any, and from any to its last
@@ -47,3 +47,6 @@ module _ (g : Graph) where
         reached = chain-walk 0 (l .mark) (stem ++ loop) (l .starts) (l .steps) (mem-right (l .mark) stem loop (l .in-loop));
         loops = closed-far (l .mark) loop (chain-right stem loop (l .steps)) (l .closes) (l .in-loop);
       }
+
+  pub lasso-inside : Sound g → (stem loop : List ℕ) → Lasso g stem loop → (s : ℕ) → Mem s (stem ++ loop) → s < g .size
+  lasso-inside sound stem loop l s m = walk-inside sound (sound .first) (chain-walk 0 s (stem ++ loop) (l .starts) (l .steps) m)

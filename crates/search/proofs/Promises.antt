@@ -5,21 +5,28 @@ use mathlib.Core.Path.{_≡_, refl, sym, ap, subst, _∙_}
 use mathlib.Core.Bool.{true}
 use mathlib.Core.List.{List, [], _∷_, _++_, append-assoc}
 use mathlib.Core.Logic.{_⊎_, inl, inr, _≢_}
-use lib.ListN.{length, drop, take}
+use lib.ListN.{length, drop, take, length-append}
 use lib.Seq.{take-at, drop-at}
 use native.Mathlib.Omega.{arith}
-use Rattle.graphs.specs.Graph.{Graph, Sound}
+use Rattle.graphs.specs.Lists.{Mem}
+use Rattle.graphs.specs.Graph.{Graph, graph, Sound}
 use Rattle.graphs.specs.Lasso.{Lasso, MarkedLoop}
 use Rattle.graphs.specs.Words.{graphOf, isGraph}
 use Rattle.graphs.proofs.Tests.{same?}
+use Rattle.graphs.proofs.Lasso.{lasso-inside}
 use Rattle.moves.specs.declared.Tally.{Tally}
 use Rattle.moves.specs.Moves.{turn}
-use Rattle.moves.specs.Room.{room, roomSize}
+use Rattle.moves.specs.Room.{room, roomSize, stretchAt, AllFit}
+use Rattle.moves.proofs.Room.{room-long as machine-long}
 use Rattle.moves.specs.Run.{Answer, cycle, none, undecided, Result, next, run, rounds}
+use Rattle.theory.specs.Invariant.{SeedAt}
 use Rattle.theory.specs.Turns.{Named, Cut, CanMove, Decided, Word, word-cycle, word-none, word-undecided, wordOf, mostMoves}
 use Rattle.theory.proofs.Ends.{rounds-named, rounds-cut}
-use Rattle.theory.proofs.Demands.{graph-of-words, each-turn-moves, cycle-is-lasso, none-is-none, undecided-ran-out, some-worker-moves}
+use Rattle.theory.proofs.Demands.{graph-of-words, each-turn-moves, cycle-is-lasso, none-is-none, undecided-ran-out, some-worker-moves, seeds-inside}
 use Rattle.theory.proofs.Demands.{words-moves-bounded, words-cut-decides, cut-same-word, words-most}
+use Rattle.theory.proofs.Rooms.{run-fits}
+use Rattle.stretch.specs.Own.{ownOf, ownIn}
+use Rattle.stretch.proofs.Owned.{own-seen}
 use Rattle.limits.specs.Refusals.{refusalOf, usual}
 use Rattle.limits.proofs.Refused.{fine}
 use Rattle.ends.specs.declared.Outcome.{Outcome}
@@ -128,6 +135,23 @@ module _ {offsets targets flags turns : List ℕ} {P number : ℕ} {l lasso : Li
     unfolding left
     room-is = ap (λ k. k .room) (answered-so not-refused)
 
+    fits : AllFit (length flags) P (end .machine)
+    unfolding graphOf graph
+    fits = run-fits g P sound some turns named
+
+    pub room-long : roomSize (length flags) P ≤ length l′
+    room-long = rw (room-is, length-append, machine-long (length flags) P (end .machine) fits) (omega arith)
+
+    -- what four words of the room tell of worker q is its place and depths after the last move made
+    pub worker-is : (q : ℕ) → q < P → ownIn l′ (stretchAt (length flags) q + 5 * length flags) ≡ ownOf (end .machine .worker q)
+    worker-is q h =
+        own-seen (length flags) P q h (end .machine) (drop (roomSize (length flags) P) l) l′ (record { form = room-is; fits = fits })
+
+    -- and its seed is a state
+    pub seed-states : (q z : ℕ) → SeedAt (end .machine .worker q .place) z → z < length flags
+    unfolding graphOf graph
+    seed-states = seeds-inside g P sound some turns named
+
     pub tally-is : t′ ≡ end .tally
     unfolding left
     tally-is = ap (λ k. k .tally) (answered-so not-refused)
@@ -150,10 +174,11 @@ module _ {offsets targets flags turns : List ℕ} {P number : ℕ} {l lasso : Li
         go undecided d q = d
 
     -- 2. ""cycle" comes with a real path from the initial state and a real loop holding a marked state": stem and then loop, in the lasso room
-    pub cycle-shown : (stem loop used : ℕ) → told r ≡ told-cycle stem loop used → Lasso g (take stem lasso′) (take loop (drop stem lasso′))
+    pub cycle-shown : (stem loop used : ℕ) → told r ≡ told-cycle stem loop used
+        → (stem + loop ≤ length lasso′) × Lasso g (take stem lasso′) (take loop (drop stem lasso′))
     cycle-shown stem loop used e = go (end .answer) refl
       where
-        go : (a : Answer) → end .answer ≡ a → Lasso g (take stem lasso′) (take loop (drop stem lasso′))
+        go : (a : Answer) → end .answer ≡ a → (stem + loop ≤ length lasso′) × Lasso g (take stem lasso′) (take loop (drop stem lasso′))
         go (cycle xs ys) q =
             let same : told-cycle (length xs) (length ys) (end .used) ≡ told-cycle stem loop used = sym (tells-is ∙ ap (λ a. tellsOf a (end .used)) q) ∙ e in
             let stem-long : length xs ≡ stem = cc in
@@ -164,10 +189,18 @@ module _ {offsets targets flags turns : List ℕ} {P number : ℕ} {l lasso : Li
               take-at xs (ys ++ drop (length (xs ++ ys)) lasso) stem stem-long,
               drop-at xs (ys ++ drop (length (xs ++ ys)) lasso) stem stem-long,
               take-at ys (drop (length (xs ++ ys)) lasso) loop loop-long,
+              length-append xs,
+              length-append ys,
             )
-            (cycle-is-lasso g P sound some turns named xs ys q)
+            (omega (arith, stem-long, loop-long), cycle-is-lasso g P sound some turns named xs ys q)
         go none q = let z = ap wordNumber (sym (tells-is ∙ ap (λ a. tellsOf a (end .used)) q) ∙ e) in absurd (omega (arith, z))
         go undecided q = let z = ap wordNumber (sym (tells-is ∙ ap (λ a. tellsOf a (end .used)) q) ∙ e) in absurd (omega (arith, z))
+
+    -- and all of it are states
+    pub cycle-states : (stem loop used : ℕ) → told r ≡ told-cycle stem loop used
+        → (s : ℕ) → Mem s (take stem lasso′ ++ take loop (drop stem lasso′)) → s < length flags
+    unfolding graphOf graph
+    cycle-states stem loop used e = lasso-inside g sound (take stem lasso′) (take loop (drop stem lasso′)) (cycle-shown stem loop used e .1)
 
     -- ""none" is said only if no such loop can be reached"
     pub none-none : (used : ℕ) → told r ≡ told-none used → MarkedLoop g → ⊥

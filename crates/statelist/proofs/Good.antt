@@ -14,8 +14,8 @@ use Rattle.graphs.specs.Lists.{Mem, Once, all, any, same}
 use Rattle.graphs.proofs.Tests.{either, clash, same?, and-cases, cond-ind}
 use Rattle.graphs.proofs.Same.{eq-same, any-not-at, all-join}
 use Rattle.graphs.proofs.Once.{once-join}
-use Rattle.lines.specs.Line.{field, isState, isTransition, flagOf}
-use Rattle.lines.proofs.Records.{flag-low}
+use Rattle.lines.specs.Line.{field, isLabel, isState, isTransition, flagOf}
+use Rattle.lines.proofs.Records.{flag-low, state-label}
 use Rattle.statelist.proofs.Nil.{is-nil}
 use Rattle.statelist.specs.Text.{State, Transition, Rooms, Seen, Meaning, reads, refused, isNil, declared, numberOf, transitionOf, stood}
 use Rattle.statelist.specs.Text.{withState, withTransition, stateLine, transitionLine, oneLine, nothing}
@@ -38,6 +38,7 @@ pub record Good (rooms : Rooms) (text : List ℕ) (seen : Seen) : Type 0 where
   pub states-fit : length (seen .states) ≤ rooms .for-states
   pub transitions-fit : length (seen .transitions) ≤ rooms .for-transitions
   pub flags-below : all (λ s. ltb (s .flag) 2) (seen .states) ≡ true
+  pub labels-formed : all (λ s. isLabel (s .label)) (seen .states) ≡ true
   pub labels-stand : all (stands text) (seen .states) ≡ true
   pub labels-apart : (i j : ℕ) → i < j → j < length (seen .states) → labelIn (seen .states) i ≢ labelIn (seen .states) j
   pub sources-below : all (λ t. ltb (t .from) (length (seen .states))) (seen .transitions) ≡ true
@@ -112,6 +113,7 @@ module _ (rooms : Rooms) (text : List ℕ) where
         states-fit = omega arith;
         transitions-fit = omega arith;
         flags-below = refl;
+        labels-formed = refl;
         labels-stand = refl;
         labels-apart = λ i j h k e. omega arith;
         sources-below = refl;
@@ -126,14 +128,16 @@ module _ (rooms : Rooms) (text : List ℕ) where
     After s = Good rooms text s × (s .at ≡ seen .at + length line + 1)
 
     state-good : seen .transitions ≡ [] → declared (field 1 line) (seen .states) ≡ false → length (seen .states) < rooms .for-states
-        → take (length (field 1 line)) (drop (seen .at + 2) text) ≡ field 1 line → Good rooms text (withState line seen)
+        → isLabel (field 1 line) ≡ true → take (length (field 1 line)) (drop (seen .at + 2) text) ≡ field 1 line
+        → Good rooms text (withState line seen)
     unfolding withState all targetsFrom
-    state-good none new room here =
+    state-good none new room formed here =
         let state : State = record { label = field 1 line; start = seen .at + 2; flag = flagOf line } in
         record {
           states-fit = simp length-append (omega arith);
           transitions-fit = good .transitions-fit;
           flags-below = all-more (λ s. ltb (s .flag) 2) (seen .states) state (good .flags-below) (lt-ltb (flagOf line) 2 (flag-low line));
+          labels-formed = all-more (λ s. isLabel (s .label)) (seen .states) state (good .labels-formed) formed;
           labels-stand = all-more (stands text) (seen .states) state (good .labels-stand) (eq-same _ _ here);
           labels-apart = more-apart (seen .states) state new (good .labels-apart);
           sources-below = rw none;
@@ -153,6 +157,7 @@ module _ (rooms : Rooms) (text : List ℕ) where
           states-fit = good .states-fit;
           transitions-fit = simp length-append (omega arith);
           flags-below = good .flags-below;
+          labels-formed = good .labels-formed;
           labels-stand = good .labels-stand;
           labels-apart = good .labels-apart;
           sources-below = all-more (λ u. ltb (u .from) n) (seen .transitions) t (good .sources-below) (known (field 1 line) from);
@@ -167,13 +172,14 @@ module _ (rooms : Rooms) (text : List ℕ) where
     low : (number : ℕ) → 1 ≤ number → number ≤ 8 → Either rooms After (refused number (seen .line))
     low number h k = (h, k, omega (arith, good .numbered, good .states-fit, good .transitions-fit))
 
-    state-line-good : take (length (field 1 line)) (drop (seen .at + 2) text) ≡ field 1 line → Either rooms After (stateLine rooms line seen)
+    state-line-good : isLabel (field 1 line) ≡ true → take (length (field 1 line)) (drop (seen .at + 2) text) ≡ field 1 line
+        → Either rooms After (stateLine rooms line seen)
     unfolding stateLine withState
-    state-line-good here =
+    state-line-good formed here =
         cond-ind (Either rooms After) (not (isNil (seen .transitions))) (λ e. low 2 (omega arith) (omega arith)) (λ none.
         cond-ind (Either rooms After) (declared (field 1 line) (seen .states)) (λ e. low 3 (omega arith) (omega arith)) (λ new.
         cond-ind (Either rooms After) (leb (rooms .for-states) (length (seen .states))) (λ e. low 6 (omega arith) (omega arith)) (λ room.
-        (state-good (is-nil (seen .transitions) (not-false _ none)) new (leb-false _ _ room) here, refl))))
+        (state-good (is-nil (seen .transitions) (not-false _ none)) new (leb-false _ _ room) formed here, refl))))
 
     transition-line-good : Either rooms After (transitionLine rooms line seen)
     unfolding transitionLine withTransition
@@ -190,5 +196,5 @@ module _ (rooms : Rooms) (text : List ℕ) where
         → Either rooms After (oneLine rooms line seen)
     unfolding oneLine
     line-good here =
-        cond-ind (Either rooms After) (isState line) (λ e. state-line-good (here e)) (λ e.
+        cond-ind (Either rooms After) (isState line) (λ e. state-line-good (state-label line e) (here e)) (λ e.
         cond-ind (Either rooms After) (isTransition line) (λ k. transition-line-good) (λ k. low 2 (omega arith) (omega arith)))

@@ -1,10 +1,10 @@
 -- What the contract of `read` says in other words: a text that is read as a graph leaves the words of a graph, and different labels; and the
 -- numbers that a reader is told are small.
-use Prim.Native.Nat.{ℕ, _+_, _≤_, _<_}
+use Prim.Native.Nat.{ℕ, _+_, _*_, _≤_, _<_}
 use mathlib.Core.Path.{_≡_, refl, sym, ap, _∙_}
 use mathlib.Core.Bool.{true}
 use mathlib.Core.List.{List}
-use lib.ListN.{length, take}
+use lib.ListN.{length, getD, take}
 use native.Mathlib.Omega.{arith}
 use Rattle.graphs.specs.Words.{most-states, most-transitions, isGraph}
 use Rattle.statelist.specs.declared.Reading.the-variants.{Graph}
@@ -13,7 +13,7 @@ use Rattle.statelist.specs.Lists.{graph, refusal, roomsOf, Outcome, fill
 use Rattle.statelist.specs.Labels.{labelAt}
 use Rattle.statelist.proofs.Meaning.{numbers-only}
 use Rattle.statelist.proofs.Filled.{states-fit, transitions-fit, meaning-graph, offsets-first, targets-first, flags-first}
-use Rattle.statelist.proofs.Labels.{labels-differ}
+use Rattle.statelist.proofs.Labels.{label-within, labels-differ}
 
 cut-same : {k k′ : ℕ} {l l′ m : List ℕ} → k ≡ k′ → l ≡ l′ → take k′ l′ ≡ m → take k l ≡ m
 cut-same {k} {k′} {l} {l′} {m} e q first = rw (e, q) first
@@ -62,6 +62,11 @@ module _ (o t f p : ℕ) (text : List ℕ) where
     pub read-labels : (i j : ℕ) → i < n → j < n → labelAt text places i ≡ labelAt text places j → i ≡ j
     read-labels i j h k q =
         labels-differ o t f p text (w .seen) (w .means) i j (rw (w .states) at h) (rw (w .states) at k) (rw (ap (λ x. x .places) (w .is)) at q)
+
+    -- each stands within the text, and has at most 16 bytes
+    pub read-within : (i : ℕ) → i < n
+        → (2 * i + 1 < length places) × (getD places (2 * i) 0 + getD places (2 * i + 1) 0 ≤ length text) × (getD places (2 * i + 1) 0 ≤ 16)
+    read-within i h = rw (ap (λ x. x .places) (w .is)) (label-within o t f p text (w .seen) (w .means) i (rw (w .states) at h))
 
   pub graph-low : (n e : ℕ) → outcome o t f p text .tells ≡ graph n e → (n ≤ most-states) × (e ≤ most-transitions)
   graph-low n e told =

@@ -2,26 +2,25 @@
 use Prim.Native.Nat.{ℕ, suc, _+_, _-_, _*_, _<_, _≤_}
 use mathlib.Core.Path.{_≡_, refl, sym, ap, _∙_}
 use mathlib.Core.Bool.{true}
-use mathlib.Core.List.{List, [], _∷_}
+use mathlib.Core.List.{List, _∷_}
 use mathlib.Core.Logic.{inl}
 use lib.ListN.{length, getD, length-drop}
-use native.Mathlib.Nat.{add-zero}
 use native.Mathlib.Omega.{arith}
 use Rattle.graphs.specs.Graph.{Graph, graph, Sound}
 use Rattle.graphs.specs.Words.{graphOf, isGraph, most-states, most-transitions}
 use Rattle.graphs.proofs.Words.{words-are, words-sound}
 use Rattle.moves.specs.Machine.{Worker, Machine}
 use Rattle.moves.specs.Moves.{remaining, turn}
-use Rattle.moves.specs.Room.{bit, kindWord, seedWord, span, stretch, stretchAt, Fits, AllFit}
-use Rattle.moves.proofs.Room.{place-words}
+use Rattle.moves.specs.Room.{bit, span, stretch, stretchAt, Fits, AllFit}
 use Rattle.moves.proofs.Stretch.{stretch-inside}
-use Rattle.moves.proofs.Words.{Seen, long, own-word, cyan-at, R-at, taken-at, last-at, outer-top, inner-top}
+use Rattle.moves.proofs.Words.{Seen, long, own-word, cyan-at, R-at, taken-at, outer-top, inner-top}
 use Rattle.theory.specs.Rules.{Outermost, Innermost}
 use Rattle.theory.specs.Turns.{AllShallow}
 use Rattle.theory.proofs.Depth.{local-shallow}
 use Rattle.theory.proofs.Run.{turn-shallow}
 use Rattle.theory.proofs.Taken.{next-edge}
 use Rattle.stretch.specs.Own.{ownOf, ownIn}
+use Rattle.stretch.proofs.Owned.{own-seen}
 use Rattle.look.proofs.Rows.{row-of}
 use Rattle.look.proofs.Turned.{row-long}
 use Rattle.turn.specs.Turn.{Formed, Poised}
@@ -137,10 +136,4 @@ module _ {offsets targets flags : List ℕ} {P p : ℕ} {m : Machine} {rest l : 
 
   -- the place and the depths
   pub own-is : ownIn l (a + 5 * n) ≡ ownOf w
-  own-is =
-      let kind = rw add-zero at (last-word 0 (omega arith)) in
-      rw (kind, last-word 1 (omega arith), last-word 2 (omega arith), last-word 3 (omega arith), place-words (w .place))
-    where
-      last-word : (i : ℕ) → i < 4
-          → getD l (a + 5 * n + i) 0 ≡ getD (kindWord (w .place) ∷ seedWord (w .place) ∷ length (w .outer) ∷ length (w .inner) ∷ []) i 0
-      last-word i h = stretch-word (5 * n + i) (a + 5 * n + i) (omega arith) (omega arith) ∙ last-at n w fits i
+  own-is = own-seen n P p (x .named) m rest l seen
