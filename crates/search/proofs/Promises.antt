@@ -27,7 +27,7 @@ use Rattle.theory.proofs.Demands.{words-moves-bounded, words-cut-decides, cut-s
 use Rattle.theory.proofs.Rooms.{run-fits}
 use Rattle.stretch.specs.Own.{ownOf, ownIn}
 use Rattle.stretch.proofs.Owned.{own-seen}
-use Rattle.limits.specs.Refusals.{refusalOf, usual}
+use Rattle.limits.specs.Refusals.{most-workers, refusalOf, usual}
 use Rattle.limits.proofs.Refused.{fine}
 use Rattle.ends.specs.declared.Outcome.{Outcome}
 use Rattle.ends.specs.Told.{Told, told-cycle, told-none, told-undecided, told-refusal, told, tellsOf, shown}
@@ -35,7 +35,7 @@ use Rattle.search.specs.Outcomes.{lent, left, unless, outcome, outcomeTo
 use Rattle.search.proofs.Whole.{refusedWith, unless-0, unless-not}
 
 -- a told answer is not a refusal
-abbrev refuses : Told → ℕ
+abbrev pub refuses : Told → ℕ
 refuses (told-cycle stem loop used) = 0
 refuses (told-none used) = 0
 refuses (told-undecided used) = 0
@@ -54,6 +54,7 @@ pub record Call (offsets targets flags turns : List ℕ) (P number : ℕ) (l las
     (r : Outcome) (l′ lasso′ : List ℕ) (t′ : Tally) : Type 0 where
   pub graph : number ≡ 0 → isGraph offsets targets flags ≡ true
   pub some : number ≡ 0 → 0 < P
+  pub few : number ≡ 0 → P ≤ most-workers
   pub named : number ≡ 0 → Named P turns
   pub leaves : lent r l′ lasso′ t′ ≡ unless number (left (length flags) P (run (graphOf offsets targets flags) P turns) l lasso) l lasso t
 
@@ -63,7 +64,7 @@ pub run-call : (turns offsets targets flags : List ℕ) (P : ℕ) (l lasso : Lis
 unfolding outcome
 run-call turns offsets targets flags P l lasso t r l′ lasso′ t′ is =
     let known = fine (length l) (length lasso) turns offsets targets flags P in
-    record { graph = λ z. known z .graph; some = λ z. known z .some; named = λ z. known z .named; leaves = is }
+    record { graph = λ z. known z .graph; some = λ z. known z .some; few = λ z. known z .few; named = λ z. known z .named; leaves = is }
 
 abbrev endTurns : (offsets targets flags : List ℕ) → ℕ → List ℕ
 endTurns offsets targets flags P = rounds P (mostMoves (graphOf offsets targets flags) P)
@@ -78,6 +79,7 @@ end-call offsets targets flags workers l lasso t r l′ lasso′ t′ is =
     record {
       graph = λ z. known z .graph;
       some = λ z. known z .some;
+      few = λ z. known z .few;
       named = λ z. rounds-named (usual workers) (mostMoves (graphOf offsets targets flags) (usual workers));
       leaves = is;
     }
@@ -114,6 +116,9 @@ module _ {offsets targets flags turns : List ℕ} {P number : ℕ} {l lasso : Li
 
     some : 0 < P
     some = call .some not-refused
+
+    pub workers-few : P ≤ most-workers
+    workers-few = call .few not-refused
 
     named : Named P turns
     named = call .named not-refused

@@ -1,6 +1,6 @@
 -- Laws of `rounds`, the turns 0, 1, .., P − 1 again and again: their number, the turn at a place, and which turn follows which.
 use Prim.Native.Nat.{ℕ, zero, suc, _+_, _-_, _*_, _<_, _≤_, _%_}
-use mathlib.Core.Path.{_≡_, refl, sym, ap, _∙_}
+use mathlib.Core.Path.{_≡_, sym, ap, _∙_}
 use mathlib.Core.List.{_++_}
 use mathlib.Core.Logic.{_⊎_, inl, inr}
 use lib.ListN.{length, getD, length-append, List·getD-append}
@@ -11,18 +11,8 @@ use native.Mathlib.Omega.{arith}
 use borrow.Author.Tests.{lt-ltb, le-ltb}
 use Rattle.graphs.proofs.Tests.{below?}
 use Rattle.moves.specs.Run.{upFrom, rounds}
+use Rattle.moves.proofs.UpFrom.{upFrom-long, upFrom-at}
 use Rattle.steps.specs.Standing.{followed}
-
-upFrom-long : (n k : ℕ) → length (upFrom n k) ≡ k
-unfolding upFrom
-upFrom-long n zero = refl
-upFrom-long n (suc k) = ap suc (upFrom-long (suc n) k)
-
-upFrom-at : (n k i : ℕ) → i < k → getD (upFrom n k) i 0 ≡ n + i
-unfolding upFrom
-upFrom-at n zero i h = absurd (omega arith)
-upFrom-at n (suc k) zero h = omega arith
-upFrom-at n (suc k) (suc i) h = upFrom-at (suc n) k i (omega arith) ∙ omega arith
 
 pub rounds-long : (P k : ℕ) → length (rounds P k) ≡ P * k
 unfolding rounds

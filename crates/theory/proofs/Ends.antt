@@ -9,7 +9,7 @@ use native.Mathlib.Omega.{arith}
 use native.Mathlib.Nat.{le-refl, le-trans, zero-add, suc-add}
 use Rattle.graphs.specs.Lists.{Mem}
 use Rattle.graphs.specs.Graph.{Graph, Sound}
-use Rattle.graphs.proofs.Tests.{either, clash, same?}
+use Rattle.graphs.proofs.Tests.{either, clash}
 use Rattle.graphs.proofs.Every.{every-of}
 use Rattle.graphs.proofs.Member.{mem-left, mem-right, mem-cases}
 use Rattle.moves.specs.declared.Place.the-variants.{Done}
@@ -17,6 +17,7 @@ use Rattle.moves.specs.Place.{isDone}
 use Rattle.moves.specs.Moves.{turn}
 use Rattle.moves.specs.Tally.{changes}
 use Rattle.moves.specs.Run.{undecided, allDone, Result, begin, next, step, runFrom, run, upFrom, rounds, runRounds}
+use Rattle.moves.proofs.UpFrom.{upFrom-below, upFrom-all}
 use Rattle.theory.specs.Rules.{Rule}
 use Rattle.theory.specs.Invariant.{Invariant}
 use Rattle.theory.specs.Turns.{Named, NamesAll, CanMove, Counts, Cut, Decided, Stands}
@@ -124,26 +125,10 @@ module _ (g : Graph) (sound : Sound g) (P : ℕ) (some : 0 < P) where
       fell : due (runFrom g P r s) ≤ k
       fell = omega (arith, stretch-falls r s named all st (open-before g P (runFrom g P r s) t e′))
 
--- the numbers from i on, k of them
-upFrom-named : (i k P : ℕ) → i + k ≤ P → Named P (upFrom i k)
-unfolding upFrom
-upFrom-named i zero P h p m = absurd m
-upFrom-named i (suc k) P h p (inl e) = omega arith
-upFrom-named i (suc k) P h p (inr m) = upFrom-named (suc i) k P (omega arith) p m
-
-upFrom-all : (i k p : ℕ) → i ≤ p → p < i + k → Mem p (upFrom i k)
-unfolding upFrom
-upFrom-all i zero p h j = absurd (omega arith)
-upFrom-all i (suc k) p h j = go (λ a b. upFrom-all (suc i) k p a b) (same? p i)
-  where
-    go : (suc i ≤ p → p < suc i + k → Mem p (upFrom (suc i) k)) → (p ≡ i) ⊎ (p ≢ i) → Mem p (i ∷ upFrom (suc i) k)
-    go rest (inl e) = inl e
-    go rest (inr ne) = inr (rest (omega arith) (omega arith))
-
 pub rounds-named : (P k : ℕ) → Named P (rounds P k)
 unfolding rounds
 rounds-named P zero p m = absurd m
-rounds-named P (suc k) p m = ⊎-elim (upFrom-named 0 P P (omega arith) p) (rounds-named P k p) (mem-cases p (upFrom 0 P) (rounds P k) m)
+rounds-named P (suc k) p m = ⊎-elim (upFrom-below 0 P P (omega arith) p) (rounds-named P k p) (mem-cases p (upFrom 0 P) (rounds P k) m)
 
 pub rounds-cut : (P k : ℕ) → Cut P k (rounds P k)
 unfolding rounds

@@ -1,6 +1,6 @@
 -- `put` writes the bytes: after i turns of its loop, the first i.
 use Prim.Native.Nat.{_+_, _-_, _≤_}
-use mathlib.Core.Path.{_≡_, refl, sym, ap, _∙_}
+use mathlib.Core.Path.{_≡_, refl, ap, _∙_}
 use lib.ListN.{length, take, length-set}
 use lib.Seq.{take-all}
 use native.Mathlib.Nat.{add-zero}

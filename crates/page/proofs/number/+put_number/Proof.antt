@@ -103,11 +103,11 @@ pub +put-number-spec : {M : Type 1} → statement M
 +put-number-spec =
     close μ-put-number λ t.
     put-number-lts.spec (
-  put-digit-reads.Asked,
-  put-digit-reads.Learnt,
-  put-number-below t,
-  put-number.Post,
-) (put-number-at t) put-number.Post
+      put-digit-reads.Asked,
+      put-digit-reads.Learnt,
+      put-number-below t,
+      put-number.Post,
+    ) (put-number-at t) put-number.Post
     (put-number-put-digit-requires t)
     (put-number-same-length t)
     (put-number-returns t)
