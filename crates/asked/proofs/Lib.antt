@@ -1,0 +1,6 @@
+-- Laws of words: of digits, of their number, and of words spelt out; what some words ask for; and that the contract of `ask` settles the call.
+pub mod Numbers
+pub mod Counted
+pub mod Spelt
+pub mod Cases
+pub mod Settled

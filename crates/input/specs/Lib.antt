@@ -1,0 +1,2 @@
+-- What came of reading all of an input.
+pub mod Got
