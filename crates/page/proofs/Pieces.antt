@@ -2,9 +2,11 @@
 use Prim.Native.Nat.{ℕ, suc, _+_, _≤_, _<_}
 use mathlib.Core.Path.{_≡_, refl, sym, ap, subst, _∙_}
 use mathlib.Core.List.{List, [], _∷_, _++_, append-assoc, append-nil}
+use mathlib.Core.Logic.{inl, inr}
 use lib.ListN.{length, getD, take, drop, take-append-drop}
 use lib.Seq.{take-suc, take-all, drop-cons}
 use native.Mathlib.Numerals.{add-one}
+use Rattle.graphs.specs.Lists.{Mem}
 use Rattle.page.specs.Words.{joined}
 use Rattle.page.specs.Page.{Page, written, Holds, puts}
 use Rattle.page.proofs.Written.{puts-none, holds-first, holds-rest, then}
@@ -50,3 +52,9 @@ module _ (f : ℕ → List ℕ) where
 
       pub piece-more : {q : Page} → q ≡ puts p end (f (getD l i 0)) → q ≡ puts page at (joined f (take (i + 1) l))
       piece-more e = then (joined f (take i l)) (f (getD l i 0)) first-two first e ∙ ap (puts page at) (sym one-more)
+
+-- pieces that are the same for each of the list
+pub joined-same : (f g : ℕ → List ℕ) (l : List ℕ) → ((x : ℕ) → Mem x l → f x ≡ g x) → joined f l ≡ joined g l
+unfolding joined
+joined-same f g [] h = refl
+joined-same f g (x ∷ l) h = rw (h x (inl refl), joined-same f g l (λ y m. h y (inr m)))
