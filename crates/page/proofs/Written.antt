@@ -1,5 +1,5 @@
 -- Laws of writing into a page: what is written after another piece, nothing, and one byte.
-use Prim.Native.Nat.{ℕ, _+_, _<_}
+use Prim.Native.Nat.{ℕ, _+_, _≤_, _<_}
 use mathlib.Core.Path.{_≡_, sym, ap, _∙_}
 use mathlib.Core.List.{List, [], _∷_, _++_, append-assoc}
 use lib.ListN.{length, getD, take, drop, set, length-append, length-drop, take-append-drop}
@@ -64,6 +64,15 @@ module _ {page : List ℕ} {at : ℕ} where
           let all : take a p ++ (m ++ drop (a + length m) p) ≡ take at page ++ ((l ++ m) ++ drop (at + length (l ++ m)) page) =
           rw (before, after, past, append-assoc (take at page) l _, append-assoc l m _) in
           e ∙ (λ i. record { end = ends i; bytes = all i })
+
+-- what is written from the front on lies within the page
+pub written-within : (page l : List ℕ) {a : ℕ} {p : List ℕ} → written a p ≡ puts page 0 l → a ≤ length p
+unfolding puts
+written-within page l {a} {p} e =
+    let long : length p ≡ length (l ++ drop (0 + length l) page) = ap (λ k. length (k .bytes)) e in
+    let end : a ≡ 0 + length l = ap (λ k. k .end) e in
+    let both = length-append l (drop (0 + length l) page) in
+    omega (arith, long, end, both)
 
 -- one byte more of what is to be written
 module _ (page : List ℕ) (at : ℕ) (bytes : List ℕ) (i : ℕ) (h : i < length bytes) (holds : Holds page at bytes) where

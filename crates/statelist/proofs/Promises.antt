@@ -46,6 +46,12 @@ module _ (o t f p : ℕ) (text : List ℕ) where
     abbrev w : Was n e (comes (Graph n e) offsets targets flags places)
     w = was n e (comes (Graph n e) offsets targets flags places) refl comes-so
 
+    -- the lists have N + 1, E and N words
+    pub read-fits : (n + 1 ≤ o) × (e ≤ t) × (n ≤ f)
+    read-fits =
+        let fit = states-fit o t f p text (w .seen) (w .means) in
+        (rw (w .states) (fit .1), rw (w .transitions) (transitions-fit o t f p text (w .seen) (w .means) .1), rw (w .states) (fit .2))
+
     -- what `read` fills, cut to N + 1, E and N words, is a graph
     pub read-graph : isGraph (take (n + 1) offsets) (take e targets) (take n flags) ≡ true
     read-graph =

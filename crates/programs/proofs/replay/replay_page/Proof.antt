@@ -1,0 +1,128 @@
+-- `replay_page` writes the page of a text: refused, or the lines of its graph's run.
+use Prim.Native.Nat.{ℕ}
+use mathlib.Core.Path.{sym, ap, _∙_}
+use mathlib.Core.List.{[], _∷_}
+use mathlib.Core.Logic.{_≢_}
+use types.Run
+use lib.Seq.{length-take-le}
+use native.Mathlib.Omega.{arith}
+use Rattle.statelist.specs.declared.Reading.the-variants.{Graph}
+use Rattle.statelist.specs.Lists.{told}
+use Rattle.statelist.proofs.Promises.{read-fits}
+use Rattle.page.specs.Page.{puts}
+use Rattle.programs.proofs.Reading.{read-given, reading-long, replay-refused, replay-graph}
+use borrow.Author.Needs.{needs}
+use Rattle.programs.proofs.replay.replay_page.Statement.{statement}
+use Rattle.programs.proofs.replay.replay_page.Tie as tie
+
+slice-aggregate-read : tie.Need-slice-aggregate-read
+slice-aggregate-read c = search needs
+
+slice-aggregate-read-2 : tie.Need-slice-aggregate-read-2
+slice-aggregate-read-2 c = search needs
+
+slice-aggregate-read-3 : tie.Need-slice-aggregate-read-3
+slice-aggregate-read-3 c = search needs
+
+slice-aggregate-read-4 : tie.Need-slice-aggregate-read-4
+slice-aggregate-read-4 c = search needs
+
+read-requires : tie.Need-read-requires
+read-requires c κs = search needs
+
+enum-known-reading : tie.Need-enum-known-reading
+enum-known-reading c = search needs
+
+put-reading-requires : tie.Need-put-reading-requires
+put-reading-requires c κs = let long = reading-long (told (c .before .before .before .before .before .before .read .result)) in record { room = search needs }
+
+returns : tie.Need-returns
+returns c =
+    let start = c .before .before .before .before .before .before .before .before .before .before .before .before .before .before in
+    let call = c .before .before .before .before .before .before .before .read in
+    let no-graph : (n e : ℕ) → call .result ≢ Graph n e =
+    λ n e q. types.Run.miss (1 ∷ 2 ∷ 3 ∷ 4 ∷ 5 ∷ 6 ∷ 7 ∷ 8 ∷ []) 0 tt (rw q at (c .before .before .match .keys2)) in
+    c .put-reading .ensures
+    ∙ ap (puts _ 0)
+    (replay-refused (start .args .ending) (start .args .turns .now) (start .args .workers) (start .args .text .now) (call .result) no-graph _ _ _ _
+    (call .ensures))
+
+add-offsets : tie.Need-add-offsets
+add-offsets c =
+    let fits = read-fits 4097 16384 4096 8192 (c .before .before .before .before .before .before .before .before .before .before .before .before .before .before .before .args .text .now) _ _ _ _ _ _ (rw (c .before .before .reading .given .1) at (c .before .before .before .before .before .before .before .before .read .ensures)) in
+    record { fits = omega (arith, fits .0) }
+
+array-share-prefix-offsets : tie.Need-array-share-prefix-offsets
+array-share-prefix-offsets c =
+    let call = c .before .before .before .before .before .before .before .before .read in
+    let fits = read-fits 4097 16384 4096 8192 (c .before .before .before .before .before .before .before .before .before .before .before .before .before .before .before .args .text .now) _ _ _ _ _ _ (rw (c .before .before .reading .given .1) at (c .before .before .before .before .before .before .before .before .read .ensures)) in
+    omega (arith, fits .0, call .kept .0)
+
+slice-aggregate-put-replay : tie.Need-slice-aggregate-put-replay
+slice-aggregate-put-replay c =
+    let call = c .before .before .before .before .before .before .before .before .before .read in
+    let fits = read-fits 4097 16384 4096 8192 (c .before .before .before .before .before .before .before .before .before .before .before .before .before .before .before .before .args .text .now) _ _ _ _ _ _ (rw (c .before .before .before .reading .given .1) at (c .before .before .before .before .before .before .before .before .before .read .ensures)) in
+    sym (length-take-le _ _ (omega (arith, fits .0, call .kept .0)))
+
+array-share-prefix-targets : tie.Need-array-share-prefix-targets
+array-share-prefix-targets c =
+    let call = c .before .before .before .before .before .before .before .before .before .read in
+    let fits = read-fits 4097 16384 4096 8192 (c .before .before .before .before .before .before .before .before .before .before .before .before .before .before .before .before .args .text .now) _ _ _ _ _ _ (rw (c .before .before .before .reading .given .1) at (c .before .before .before .before .before .before .before .before .before .read .ensures)) in
+    omega (arith, fits .1, call .kept .1 .0)
+
+slice-aggregate-put-replay-2 : tie.Need-slice-aggregate-put-replay-2
+slice-aggregate-put-replay-2 c =
+    let call = c .before .before .before .before .before .before .before .before .before .before .read in
+    let fits = read-fits 4097 16384 4096 8192 (c .before .before .before .before .before .before .before .before .before .before .before .before .before .before .before .before .before .args .text .now) _ _ _ _ _ _ (rw (c .before .before .before .before .reading .given .1) at (c .before .before .before .before .before .before .before .before .before .before .read .ensures)) in
+    sym (length-take-le _ _ (omega (arith, fits .1, call .kept .1 .0)))
+
+array-share-prefix-flags : tie.Need-array-share-prefix-flags
+array-share-prefix-flags c =
+    let call = c .before .before .before .before .before .before .before .before .before .before .read in
+    let fits = read-fits 4097 16384 4096 8192 (c .before .before .before .before .before .before .before .before .before .before .before .before .before .before .before .before .before .args .text .now) _ _ _ _ _ _ (rw (c .before .before .before .before .reading .given .1) at (c .before .before .before .before .before .before .before .before .before .before .read .ensures)) in
+    omega (arith, fits .2, call .kept .1 .1 .0)
+
+slice-aggregate-put-replay-3 : tie.Need-slice-aggregate-put-replay-3
+slice-aggregate-put-replay-3 c =
+    let call = c .before .before .before .before .before .before .before .before .before .before .before .read in
+    let fits = read-fits 4097 16384 4096 8192 (c .before .before .before .before .before .before .before .before .before .before .before .before .before .before .before .before .before .before .args .text .now) _ _ _ _ _ _ (rw (c .before .before .before .before .before .reading .given .1) at (c .before .before .before .before .before .before .before .before .before .before .before .read .ensures)) in
+    sym (length-take-le _ _ (omega (arith, fits .2, call .kept .1 .1 .0)))
+
+slice-aggregate-put-replay-4 : tie.Need-slice-aggregate-put-replay-4
+slice-aggregate-put-replay-4 c = search needs
+
+put-replay-requires : tie.Need-put-replay-requires
+put-replay-requires c κs =
+    let call = c .before .before .before .before .before .before .before .before .before .before .before .before .read in
+    read-given 4097 16384 4096 8192 (c .before .before .before .before .before .before .before .before .before .before .before .before .before .before .before .before .before .before .before .args .text .now) _ _ _ _ _ _ (rw (c .before .before .before .before .before .before .reading .given .1) at (c .before .before .before .before .before .before .before .before .before .before .before .before .read .ensures)) 4096 (omega (arith, call .kept .1 .1 .0))
+
+returns-2 : tie.Need-returns-2
+returns-2 c =
+    let start = c .before .before .before .before .before .before .before .before .before .before .before .before .before .before .before .before .before .before .before .before in
+    c .put-replay .ensures
+    ∙ ap (puts _ 0)
+    (replay-graph (start .args .ending) (start .args .turns .now) (start .args .workers) (start .args .text .now) _ _ _ _ _ _
+    (rw (c .before .before .before .before .before .before .before .reading .given .1) at (c .before .before .before .before .before .before .before .before .before .before .before .before .before .read .ensures)))
+
+pub replay-page-spec : {M : Type 1} → statement M
+replay-page-spec =
+    tie.close
+    (tie.spec
+    slice-aggregate-read
+    slice-aggregate-read-2
+    slice-aggregate-read-3
+    slice-aggregate-read-4
+    read-requires
+    enum-known-reading
+    put-reading-requires
+    returns
+    add-offsets
+    array-share-prefix-offsets
+    slice-aggregate-put-replay
+    array-share-prefix-targets
+    slice-aggregate-put-replay-2
+    array-share-prefix-flags
+    slice-aggregate-put-replay-3
+    slice-aggregate-put-replay-4
+    put-replay-requires
+    returns-2)
