@@ -32,14 +32,14 @@ digits-more (suc k) n h = go (digits-more k (n / 10)) (below? n 10)
         let tenth : n / 10 < 10 ^ suc k = let r = rw (pow-suc 10 (suc k)) at h in omega (arith, r) in
         digits-step (suc (suc k)) n high ∙ ap (λ l. l ++ (digit (n % 10) ∷ [])) (more tenth) ∙ sym (digits-step (suc k) n high)
 
-pub decimal-one : (n : ℕ) → n < 10 → decimal n ≡ digit n ∷ []
-unfolding decimal
-decimal-one = digits-one 19
-
 pub decimal-more : (n : ℕ) → n < 2 ^ 64 → 10 ≤ n → decimal n ≡ decimal (n / 10) ++ (digit (n % 10) ∷ [])
 unfolding decimal
 decimal-more n h high =
     digits-step 19 n high ∙ ap (λ l. l ++ (digit (n % 10) ∷ [])) (sym (digits-more 18 (n / 10) (omega (arith, h))))
+
+pub decimal-one : (n : ℕ) → n < 10 → decimal n ≡ digit n ∷ []
+unfolding decimal
+decimal-one = digits-one 19
 
 digits-long : (k n : ℕ) → length (digits k n) ≤ k
 unfolding digits
