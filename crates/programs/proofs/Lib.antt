@@ -6,4 +6,5 @@ pub mod Pages
 pub mod Reading
 pub mod Searched
 pub mod Replayed
+pub mod Cases
 pub mod Settled
