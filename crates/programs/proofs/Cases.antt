@@ -1,7 +1,7 @@
 -- What the programs print, by computing: 01's text of 0417 and 417, from bytes to bytes.
 use mathlib.Core.Path.{_≡_, refl}
-use mathlib.Core.Bool.{true, false}
-use mathlib.Core.List.{List, [], _∷_}
+use mathlib.Core.Bool.{false}
+use mathlib.Core.List.{[], _∷_}
 use Rattle.graphs.specs.Lists.{upd, every, sum, tab, any, all, same, elem, repeats}
 use Rattle.graphs.specs.Graph.{graph, turned, edges}
 use Rattle.graphs.specs.Words.{graphOf, successors, marked, isGraph, sizesFit, offsetsSpan, neverFalling, allBelow, noneTwice}
