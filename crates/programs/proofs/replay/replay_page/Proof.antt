@@ -1,15 +1,16 @@
 -- `replay_page` writes the page of a text: refused, or the lines of its graph's run.
-use Prim.Native.Nat.{ℕ}
-use mathlib.Core.Path.{sym, ap, _∙_}
+use Prim.Native.Nat.{ℕ, _+_, _≤_}
+use mathlib.Core.Path.{_≡_, sym, ap, _∙_}
 use mathlib.Core.List.{[], _∷_}
 use mathlib.Core.Logic.{_≢_}
 use types.Run
 use lib.Seq.{length-take-le}
 use native.Mathlib.Omega.{arith}
 use Rattle.statelist.specs.declared.Reading.the-variants.{Graph}
-use Rattle.statelist.specs.Lists.{told}
+use Rattle.statelist.specs.Lists.{told, comes}
 use Rattle.statelist.proofs.Promises.{read-fits}
 use Rattle.page.specs.Page.{puts}
+use Rattle.programs.specs.Replay.{reading}
 use Rattle.programs.proofs.Reading.{read-given, reading-long, replay-refused, replay-graph}
 use borrow.Author.Needs.{needs}
 use Rattle.programs.proofs.replay.replay_page.Statement.{statement}
@@ -47,54 +48,47 @@ returns c =
     (replay-refused (start .args .ending) (start .args .turns .now) (start .args .workers) (start .args .text .now) (call .result) no-graph _ _ _ _
     (call .ensures))
 
+-- A graph was read: the contract of `read`, the lists' words, and what a search is given.
+read-is : (c : tie.After-reading)
+    → comes (Graph (c .reading .given .0 .0) (c .reading .given .0 .1 .0)) (c .before .before .before .before .before .before .read .last .0) (c .before .before .before .before .before .before .read .last .1 .0)
+    (c .before .before .before .before .before .before .read .last .1 .1 .0) (c .before .before .before .before .before .before .read .last .1 .1 .1 .0)
+    ≡ reading (c .before .before .before .before .before .before .before .before .before .before .before .before .before .args .text .now)
+read-is c = rw (c .reading .given .1) at (c .before .before .before .before .before .before .read .ensures)
+
+fits : (c : tie.After-reading)
+    → (c .reading .given .0 .0 + 1 ≤ 4097) × (c .reading .given .0 .1 .0 ≤ 16384) × (c .reading .given .0 .0 ≤ 4096)
+fits c = read-fits 4097 16384 4096 8192 (c .before .before .before .before .before .before .before .before .before .before .before .before .before .args .text .now) _ _ _ _ _ _ (read-is c)
+
 add-offsets : tie.Need-add-offsets
-add-offsets c =
-    let fits = read-fits 4097 16384 4096 8192 (c .before .before .before .before .before .before .before .before .before .before .before .before .before .before .before .args .text .now) _ _ _ _ _ _ (rw (c .before .before .reading .given .1) at (c .before .before .before .before .before .before .before .before .read .ensures)) in
-    record { fits = omega (arith, fits .0) }
+add-offsets c = record { fits = omega (arith, fits (c .before .before) .0) }
 
 array-share-prefix-offsets : tie.Need-array-share-prefix-offsets
-array-share-prefix-offsets c =
-    let call = c .before .before .before .before .before .before .before .before .read in
-    let fits = read-fits 4097 16384 4096 8192 (c .before .before .before .before .before .before .before .before .before .before .before .before .before .before .before .args .text .now) _ _ _ _ _ _ (rw (c .before .before .reading .given .1) at (c .before .before .before .before .before .before .before .before .read .ensures)) in
-    omega (arith, fits .0, call .kept .0)
+array-share-prefix-offsets c = omega (arith, fits (c .before .before) .0, c .before .before .before .before .before .before .before .before .read .kept .0)
 
 slice-aggregate-put-replay : tie.Need-slice-aggregate-put-replay
 slice-aggregate-put-replay c =
-    let call = c .before .before .before .before .before .before .before .before .before .read in
-    let fits = read-fits 4097 16384 4096 8192 (c .before .before .before .before .before .before .before .before .before .before .before .before .before .before .before .before .args .text .now) _ _ _ _ _ _ (rw (c .before .before .before .reading .given .1) at (c .before .before .before .before .before .before .before .before .before .read .ensures)) in
-    sym (length-take-le _ _ (omega (arith, fits .0, call .kept .0)))
+    sym (length-take-le _ _ (omega (arith, fits (c .before .before .before) .0, c .before .before .before .before .before .before .before .before .before .read .kept .0)))
 
 array-share-prefix-targets : tie.Need-array-share-prefix-targets
-array-share-prefix-targets c =
-    let call = c .before .before .before .before .before .before .before .before .before .read in
-    let fits = read-fits 4097 16384 4096 8192 (c .before .before .before .before .before .before .before .before .before .before .before .before .before .before .before .before .args .text .now) _ _ _ _ _ _ (rw (c .before .before .before .reading .given .1) at (c .before .before .before .before .before .before .before .before .before .read .ensures)) in
-    omega (arith, fits .1, call .kept .1 .0)
+array-share-prefix-targets c = omega (arith, fits (c .before .before .before) .1, c .before .before .before .before .before .before .before .before .before .read .kept .1 .0)
 
 slice-aggregate-put-replay-2 : tie.Need-slice-aggregate-put-replay-2
 slice-aggregate-put-replay-2 c =
-    let call = c .before .before .before .before .before .before .before .before .before .before .read in
-    let fits = read-fits 4097 16384 4096 8192 (c .before .before .before .before .before .before .before .before .before .before .before .before .before .before .before .before .before .args .text .now) _ _ _ _ _ _ (rw (c .before .before .before .before .reading .given .1) at (c .before .before .before .before .before .before .before .before .before .before .read .ensures)) in
-    sym (length-take-le _ _ (omega (arith, fits .1, call .kept .1 .0)))
+    sym (length-take-le _ _ (omega (arith, fits (c .before .before .before .before) .1, c .before .before .before .before .before .before .before .before .before .before .read .kept .1 .0)))
 
 array-share-prefix-flags : tie.Need-array-share-prefix-flags
-array-share-prefix-flags c =
-    let call = c .before .before .before .before .before .before .before .before .before .before .read in
-    let fits = read-fits 4097 16384 4096 8192 (c .before .before .before .before .before .before .before .before .before .before .before .before .before .before .before .before .before .args .text .now) _ _ _ _ _ _ (rw (c .before .before .before .before .reading .given .1) at (c .before .before .before .before .before .before .before .before .before .before .read .ensures)) in
-    omega (arith, fits .2, call .kept .1 .1 .0)
+array-share-prefix-flags c = omega (arith, fits (c .before .before .before .before) .2, c .before .before .before .before .before .before .before .before .before .before .read .kept .1 .1 .0)
 
 slice-aggregate-put-replay-3 : tie.Need-slice-aggregate-put-replay-3
 slice-aggregate-put-replay-3 c =
-    let call = c .before .before .before .before .before .before .before .before .before .before .before .read in
-    let fits = read-fits 4097 16384 4096 8192 (c .before .before .before .before .before .before .before .before .before .before .before .before .before .before .before .before .before .before .args .text .now) _ _ _ _ _ _ (rw (c .before .before .before .before .before .reading .given .1) at (c .before .before .before .before .before .before .before .before .before .before .before .read .ensures)) in
-    sym (length-take-le _ _ (omega (arith, fits .2, call .kept .1 .1 .0)))
+    sym (length-take-le _ _ (omega (arith, fits (c .before .before .before .before .before) .2, c .before .before .before .before .before .before .before .before .before .before .before .read .kept .1 .1 .0)))
 
 slice-aggregate-put-replay-4 : tie.Need-slice-aggregate-put-replay-4
 slice-aggregate-put-replay-4 c = search needs
 
 put-replay-requires : tie.Need-put-replay-requires
 put-replay-requires c κs =
-    let call = c .before .before .before .before .before .before .before .before .before .before .before .before .read in
-    read-given 4097 16384 4096 8192 (c .before .before .before .before .before .before .before .before .before .before .before .before .before .before .before .before .before .before .before .args .text .now) _ _ _ _ _ _ (rw (c .before .before .before .before .before .before .reading .given .1) at (c .before .before .before .before .before .before .before .before .before .before .before .before .read .ensures)) 4096 (omega (arith, call .kept .1 .1 .0))
+    read-given 4097 16384 4096 8192 _ _ _ _ _ _ _ (read-is (c .before .before .before .before .before .before)) 4096 (omega (arith, c .before .before .before .before .before .before .before .before .before .before .before .before .read .kept .1 .1 .0))
 
 returns-2 : tie.Need-returns-2
 returns-2 c =
@@ -102,7 +96,7 @@ returns-2 c =
     c .put-replay .ensures
     ∙ ap (puts _ 0)
     (replay-graph (start .args .ending) (start .args .turns .now) (start .args .workers) (start .args .text .now) _ _ _ _ _ _
-    (rw (c .before .before .before .before .before .before .before .reading .given .1) at (c .before .before .before .before .before .before .before .before .before .before .before .before .before .read .ensures)))
+    (read-is (c .before .before .before .before .before .before .before)))
 
 pub replay-page-spec : {M : Type 1} → statement M
 replay-page-spec =

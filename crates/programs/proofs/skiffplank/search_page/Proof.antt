@@ -1,6 +1,6 @@
 -- `search_page` writes the page of a text: too long, refused, or the lines of its graph's run.
-use Prim.Native.Nat.{ℕ, _≤_}
-use mathlib.Core.Path.{sym, ap, _∙_}
+use Prim.Native.Nat.{ℕ, _+_, _≤_}
+use mathlib.Core.Path.{_≡_, sym, ap, _∙_}
 use mathlib.Core.List.{[], _∷_}
 use mathlib.Core.Logic.{_≢_}
 use types.Run
@@ -8,10 +8,10 @@ use lib.ListN.{length}
 use lib.Seq.{length-take-le}
 use native.Mathlib.Omega.{arith}
 use Rattle.statelist.specs.declared.Reading.the-variants.{Graph}
-use Rattle.statelist.specs.Lists.{told}
+use Rattle.statelist.specs.Lists.{told, comes}
 use Rattle.statelist.proofs.Promises.{read-fits}
 use Rattle.page.specs.Page.{puts}
-use Rattle.programs.specs.Skiffplank.{most-input}
+use Rattle.programs.specs.Skiffplank.{most-input, reading}
 use Rattle.programs.proofs.Lines.{refused-long}
 use Rattle.programs.proofs.Reading.{read-given, reading-long, search-refused, search-graph}
 use Rattle.programs.proofs.Searched.{searched-long}
@@ -57,62 +57,53 @@ returns-2 c =
     λ n e q. types.Run.miss (1 ∷ 2 ∷ 3 ∷ 4 ∷ 5 ∷ 6 ∷ 7 ∷ 8 ∷ []) 0 tt (rw q at (c .before .before .match .keys2)) in
     c .put-reading .ensures ∙ ap (puts _ 0) (search-refused (start .args .text .now) short (call .result) no-graph _ _ _ _ (call .ensures))
 
+-- A graph was read: the contract of `read`, the lists' words, and what a search is given.
+read-is : (c : tie.After-reading)
+    → comes (Graph (c .reading .given .0 .0) (c .reading .given .0 .1 .0)) (c .before .before .before .before .before .before .read .last .0) (c .before .before .before .before .before .before .read .last .1 .0)
+    (c .before .before .before .before .before .before .read .last .1 .1 .0) (c .before .before .before .before .before .before .read .last .1 .1 .1 .0)
+    ≡ reading (c .before .before .before .before .before .before .before .before .before .before .before .before .before .args .text .now)
+read-is c = rw (c .reading .given .1) at (c .before .before .before .before .before .before .read .ensures)
+
+fits : (c : tie.After-reading)
+    → (c .reading .given .0 .0 + 1 ≤ 257) × (c .reading .given .0 .1 .0 ≤ 1024) × (c .reading .given .0 .0 ≤ 256)
+fits c = read-fits 257 1024 256 512 (c .before .before .before .before .before .before .before .before .before .before .before .before .before .args .text .now) _ _ _ _ _ _ (read-is c)
+
 add-offsets : tie.Need-add-offsets
-add-offsets c =
-    let fits = read-fits 257 1024 256 512 (c .before .before .before .before .before .before .before .before .before .before .before .before .before .before .before .args .text .now) _ _ _ _ _ _ (rw (c .before .before .reading .given .1) at (c .before .before .before .before .before .before .before .before .read .ensures)) in
-    record { fits = omega (arith, fits .0) }
+add-offsets c = record { fits = omega (arith, fits (c .before .before) .0) }
 
 array-share-prefix-offsets : tie.Need-array-share-prefix-offsets
-array-share-prefix-offsets c =
-    let call = c .before .before .before .before .before .before .before .before .read in
-    let fits = read-fits 257 1024 256 512 (c .before .before .before .before .before .before .before .before .before .before .before .before .before .before .before .args .text .now) _ _ _ _ _ _ (rw (c .before .before .reading .given .1) at (c .before .before .before .before .before .before .before .before .read .ensures)) in
-    omega (arith, fits .0, call .kept .0)
+array-share-prefix-offsets c = omega (arith, fits (c .before .before) .0, c .before .before .before .before .before .before .before .before .read .kept .0)
 
 slice-aggregate-put-search : tie.Need-slice-aggregate-put-search
 slice-aggregate-put-search c =
-    let call = c .before .before .before .before .before .before .before .before .before .read in
-    let fits = read-fits 257 1024 256 512 (c .before .before .before .before .before .before .before .before .before .before .before .before .before .before .before .before .args .text .now) _ _ _ _ _ _ (rw (c .before .before .before .reading .given .1) at (c .before .before .before .before .before .before .before .before .before .read .ensures)) in
-    sym (length-take-le _ _ (omega (arith, fits .0, call .kept .0)))
+    sym (length-take-le _ _ (omega (arith, fits (c .before .before .before) .0, c .before .before .before .before .before .before .before .before .before .read .kept .0)))
 
 array-share-prefix-targets : tie.Need-array-share-prefix-targets
-array-share-prefix-targets c =
-    let call = c .before .before .before .before .before .before .before .before .before .read in
-    let fits = read-fits 257 1024 256 512 (c .before .before .before .before .before .before .before .before .before .before .before .before .before .before .before .before .args .text .now) _ _ _ _ _ _ (rw (c .before .before .before .reading .given .1) at (c .before .before .before .before .before .before .before .before .before .read .ensures)) in
-    omega (arith, fits .1, call .kept .1 .0)
+array-share-prefix-targets c = omega (arith, fits (c .before .before .before) .1, c .before .before .before .before .before .before .before .before .before .read .kept .1 .0)
 
 slice-aggregate-put-search-2 : tie.Need-slice-aggregate-put-search-2
 slice-aggregate-put-search-2 c =
-    let call = c .before .before .before .before .before .before .before .before .before .before .read in
-    let fits = read-fits 257 1024 256 512 (c .before .before .before .before .before .before .before .before .before .before .before .before .before .before .before .before .before .args .text .now) _ _ _ _ _ _ (rw (c .before .before .before .before .reading .given .1) at (c .before .before .before .before .before .before .before .before .before .before .read .ensures)) in
-    sym (length-take-le _ _ (omega (arith, fits .1, call .kept .1 .0)))
+    sym (length-take-le _ _ (omega (arith, fits (c .before .before .before .before) .1, c .before .before .before .before .before .before .before .before .before .before .read .kept .1 .0)))
 
 array-share-prefix-flags : tie.Need-array-share-prefix-flags
-array-share-prefix-flags c =
-    let call = c .before .before .before .before .before .before .before .before .before .before .read in
-    let fits = read-fits 257 1024 256 512 (c .before .before .before .before .before .before .before .before .before .before .before .before .before .before .before .before .before .args .text .now) _ _ _ _ _ _ (rw (c .before .before .before .before .reading .given .1) at (c .before .before .before .before .before .before .before .before .before .before .read .ensures)) in
-    omega (arith, fits .2, call .kept .1 .1 .0)
+array-share-prefix-flags c = omega (arith, fits (c .before .before .before .before) .2, c .before .before .before .before .before .before .before .before .before .before .read .kept .1 .1 .0)
 
 slice-aggregate-put-search-3 : tie.Need-slice-aggregate-put-search-3
 slice-aggregate-put-search-3 c =
-    let call = c .before .before .before .before .before .before .before .before .before .before .before .read in
-    let fits = read-fits 257 1024 256 512 (c .before .before .before .before .before .before .before .before .before .before .before .before .before .before .before .before .before .before .args .text .now) _ _ _ _ _ _ (rw (c .before .before .before .before .before .reading .given .1) at (c .before .before .before .before .before .before .before .before .before .before .before .read .ensures)) in
-    sym (length-take-le _ _ (omega (arith, fits .2, call .kept .1 .1 .0)))
+    sym (length-take-le _ _ (omega (arith, fits (c .before .before .before .before .before) .2, c .before .before .before .before .before .before .before .before .before .before .before .read .kept .1 .1 .0)))
 
 slice-aggregate-put-search-4 : tie.Need-slice-aggregate-put-search-4
 slice-aggregate-put-search-4 c = search needs
 
 put-search-requires : tie.Need-put-search-requires
 put-search-requires c κs =
-    let call = c .before .before .before .before .before .before .before .before .before .before .before .before .read in
-    read-given 257 1024 256 512 (c .before .before .before .before .before .before .before .before .before .before .before .before .before .before .before .before .before .before .before .args .text .now) _ _ _ _ _ _ (rw (c .before .before .before .before .before .before .reading .given .1) at (c .before .before .before .before .before .before .before .before .before .before .before .before .read .ensures)) 256 (omega (arith, call .kept .1 .1 .0))
+    read-given 257 1024 256 512 _ _ _ _ _ _ _ (read-is (c .before .before .before .before .before .before)) 256 (omega (arith, c .before .before .before .before .before .before .before .before .before .before .before .before .read .kept .1 .1 .0))
 
 returns-3 : tie.Need-returns-3
 returns-3 c =
     let start = c .before .before .before .before .before .before .before .before .before .before .before .before .before .before .before .before .before .before .before .before in
     let short : length (start .args .text .now) ≤ most-input = omega (arith, c .before .before .before .before .before .before .before .before .before .before .before .before .before .before .before .before .before .before .if1 .left) in
-    c .put-search .ensures
-    ∙ ap (puts _ 0)
-    (search-graph (start .args .text .now) short _ _ _ _ _ _ (rw (c .before .before .before .before .before .before .before .reading .given .1) at (c .before .before .before .before .before .before .before .before .before .before .before .before .before .read .ensures)))
+    c .put-search .ensures ∙ ap (puts _ 0) (search-graph (start .args .text .now) short _ _ _ _ _ _ (read-is (c .before .before .before .before .before .before .before)))
 
 pub search-page-spec : {M : Type 1} → statement M
 search-page-spec =
