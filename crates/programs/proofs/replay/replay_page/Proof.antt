@@ -4,6 +4,7 @@ use mathlib.Core.Path.{_≡_, sym, ap, _∙_}
 use mathlib.Core.List.{[], _∷_}
 use mathlib.Core.Logic.{_≢_}
 use types.Run
+use lib.ListN.{length}
 use lib.Seq.{length-take-le}
 use native.Mathlib.Omega.{arith}
 use Rattle.statelist.specs.declared.Reading.the-variants.{Graph}
@@ -48,47 +49,52 @@ returns c =
     (replay-refused (start .args .ending) (start .args .turns .now) (start .args .workers) (start .args .text .now) (call .result) no-graph _ _ _ _
     (call .ensures))
 
--- A graph was read: the contract of `read`, the lists' words, and what a search is given.
+-- A graph was read: the contract of `read`, and that the lists have its words.
+abbrev read-at : (c : tie.After-reading) → tie.After-read
+read-at c = c .before .before .before .before .before .before
+
 read-is : (c : tie.After-reading)
-    → comes (Graph (c .reading .given .0 .0) (c .reading .given .0 .1 .0)) (c .before .before .before .before .before .before .read .last .0) (c .before .before .before .before .before .before .read .last .1 .0)
-    (c .before .before .before .before .before .before .read .last .1 .1 .0) (c .before .before .before .before .before .before .read .last .1 .1 .1 .0)
-    ≡ reading (c .before .before .before .before .before .before .before .before .before .before .before .before .before .args .text .now)
+    → comes (Graph (c .reading .given .0 .0) (c .reading .given .0 .1 .0)) (read-at c .read .last .0) (read-at c .read .last .1 .0)
+    (read-at c .read .last .1 .1 .0) (read-at c .read .last .1 .1 .1 .0)
+    ≡ reading (read-at c .before .before .before .before .before .before .before .args .text .now)
 read-is c = rw (c .reading .given .1) at (c .before .before .before .before .before .before .read .ensures)
 
 fits : (c : tie.After-reading)
-    → (c .reading .given .0 .0 + 1 ≤ 4097) × (c .reading .given .0 .1 .0 ≤ 16384) × (c .reading .given .0 .0 ≤ 4096)
-fits c = read-fits 4097 16384 4096 8192 (c .before .before .before .before .before .before .before .before .before .before .before .before .before .args .text .now) _ _ _ _ _ _ (read-is c)
+    → (c .reading .given .0 .0 + 1 ≤ 4097) × (c .reading .given .0 .0 + 1 ≤ length (read-at c .read .last .0))
+    × (c .reading .given .0 .1 .0 ≤ length (read-at c .read .last .1 .0)) × (c .reading .given .0 .0 ≤ length (read-at c .read .last .1 .1 .0))
+fits c =
+    let words = read-fits 4097 16384 4096 8192 (read-at c .before .before .before .before .before .before .before .args .text .now) _ _ _ _ _ _ (read-is c) in
+    let long = read-at c .read .kept in
+    (words .0, omega (arith, words .0, long .0), omega (arith, words .1, long .1 .0), omega (arith, words .2, long .1 .1 .0))
 
 add-offsets : tie.Need-add-offsets
 add-offsets c = record { fits = omega (arith, fits (c .before .before) .0) }
 
 array-share-prefix-offsets : tie.Need-array-share-prefix-offsets
-array-share-prefix-offsets c = omega (arith, fits (c .before .before) .0, c .before .before .before .before .before .before .before .before .read .kept .0)
+array-share-prefix-offsets c = fits (c .before .before) .1
 
 slice-aggregate-put-replay : tie.Need-slice-aggregate-put-replay
-slice-aggregate-put-replay c =
-    sym (length-take-le _ _ (omega (arith, fits (c .before .before .before) .0, c .before .before .before .before .before .before .before .before .before .read .kept .0)))
+slice-aggregate-put-replay c = sym (length-take-le _ _ (fits (c .before .before .before) .1))
 
 array-share-prefix-targets : tie.Need-array-share-prefix-targets
-array-share-prefix-targets c = omega (arith, fits (c .before .before .before) .1, c .before .before .before .before .before .before .before .before .before .read .kept .1 .0)
+array-share-prefix-targets c = fits (c .before .before .before) .2
 
 slice-aggregate-put-replay-2 : tie.Need-slice-aggregate-put-replay-2
-slice-aggregate-put-replay-2 c =
-    sym (length-take-le _ _ (omega (arith, fits (c .before .before .before .before) .1, c .before .before .before .before .before .before .before .before .before .before .read .kept .1 .0)))
+slice-aggregate-put-replay-2 c = sym (length-take-le _ _ (fits (c .before .before .before .before) .2))
 
 array-share-prefix-flags : tie.Need-array-share-prefix-flags
-array-share-prefix-flags c = omega (arith, fits (c .before .before .before .before) .2, c .before .before .before .before .before .before .before .before .before .before .read .kept .1 .1 .0)
+array-share-prefix-flags c = fits (c .before .before .before .before) .3
 
 slice-aggregate-put-replay-3 : tie.Need-slice-aggregate-put-replay-3
-slice-aggregate-put-replay-3 c =
-    sym (length-take-le _ _ (omega (arith, fits (c .before .before .before .before .before) .2, c .before .before .before .before .before .before .before .before .before .before .before .read .kept .1 .1 .0)))
+slice-aggregate-put-replay-3 c = sym (length-take-le _ _ (fits (c .before .before .before .before .before) .3))
 
 slice-aggregate-put-replay-4 : tie.Need-slice-aggregate-put-replay-4
 slice-aggregate-put-replay-4 c = search needs
 
 put-replay-requires : tie.Need-put-replay-requires
 put-replay-requires c κs =
-    read-given 4097 16384 4096 8192 _ _ _ _ _ _ _ (read-is (c .before .before .before .before .before .before)) 4096 (omega (arith, c .before .before .before .before .before .before .before .before .before .before .before .before .read .kept .1 .1 .0))
+    let read = c .before .before .before .before .before .before in
+    read-given 4097 16384 4096 8192 _ _ _ _ _ _ _ (read-is read) 4096 (omega (arith, read-at read .read .kept .1 .1 .0))
 
 returns-2 : tie.Need-returns-2
 returns-2 c =

@@ -57,47 +57,52 @@ returns-2 c =
     λ n e q. types.Run.miss (1 ∷ 2 ∷ 3 ∷ 4 ∷ 5 ∷ 6 ∷ 7 ∷ 8 ∷ []) 0 tt (rw q at (c .before .before .match .keys2)) in
     c .put-reading .ensures ∙ ap (puts _ 0) (search-refused (start .args .text .now) short (call .result) no-graph _ _ _ _ (call .ensures))
 
--- A graph was read: the contract of `read`, the lists' words, and what a search is given.
+-- A graph was read: the contract of `read`, and that the lists have its words.
+abbrev read-at : (c : tie.After-reading) → tie.After-read
+read-at c = c .before .before .before .before .before .before
+
 read-is : (c : tie.After-reading)
-    → comes (Graph (c .reading .given .0 .0) (c .reading .given .0 .1 .0)) (c .before .before .before .before .before .before .read .last .0) (c .before .before .before .before .before .before .read .last .1 .0)
-    (c .before .before .before .before .before .before .read .last .1 .1 .0) (c .before .before .before .before .before .before .read .last .1 .1 .1 .0)
-    ≡ reading (c .before .before .before .before .before .before .before .before .before .before .before .before .before .args .text .now)
+    → comes (Graph (c .reading .given .0 .0) (c .reading .given .0 .1 .0)) (read-at c .read .last .0) (read-at c .read .last .1 .0)
+    (read-at c .read .last .1 .1 .0) (read-at c .read .last .1 .1 .1 .0)
+    ≡ reading (read-at c .before .before .before .before .before .before .before .args .text .now)
 read-is c = rw (c .reading .given .1) at (c .before .before .before .before .before .before .read .ensures)
 
 fits : (c : tie.After-reading)
-    → (c .reading .given .0 .0 + 1 ≤ 257) × (c .reading .given .0 .1 .0 ≤ 1024) × (c .reading .given .0 .0 ≤ 256)
-fits c = read-fits 257 1024 256 512 (c .before .before .before .before .before .before .before .before .before .before .before .before .before .args .text .now) _ _ _ _ _ _ (read-is c)
+    → (c .reading .given .0 .0 + 1 ≤ 257) × (c .reading .given .0 .0 + 1 ≤ length (read-at c .read .last .0))
+    × (c .reading .given .0 .1 .0 ≤ length (read-at c .read .last .1 .0)) × (c .reading .given .0 .0 ≤ length (read-at c .read .last .1 .1 .0))
+fits c =
+    let words = read-fits 257 1024 256 512 (read-at c .before .before .before .before .before .before .before .args .text .now) _ _ _ _ _ _ (read-is c) in
+    let long = read-at c .read .kept in
+    (words .0, omega (arith, words .0, long .0), omega (arith, words .1, long .1 .0), omega (arith, words .2, long .1 .1 .0))
 
 add-offsets : tie.Need-add-offsets
 add-offsets c = record { fits = omega (arith, fits (c .before .before) .0) }
 
 array-share-prefix-offsets : tie.Need-array-share-prefix-offsets
-array-share-prefix-offsets c = omega (arith, fits (c .before .before) .0, c .before .before .before .before .before .before .before .before .read .kept .0)
+array-share-prefix-offsets c = fits (c .before .before) .1
 
 slice-aggregate-put-search : tie.Need-slice-aggregate-put-search
-slice-aggregate-put-search c =
-    sym (length-take-le _ _ (omega (arith, fits (c .before .before .before) .0, c .before .before .before .before .before .before .before .before .before .read .kept .0)))
+slice-aggregate-put-search c = sym (length-take-le _ _ (fits (c .before .before .before) .1))
 
 array-share-prefix-targets : tie.Need-array-share-prefix-targets
-array-share-prefix-targets c = omega (arith, fits (c .before .before .before) .1, c .before .before .before .before .before .before .before .before .before .read .kept .1 .0)
+array-share-prefix-targets c = fits (c .before .before .before) .2
 
 slice-aggregate-put-search-2 : tie.Need-slice-aggregate-put-search-2
-slice-aggregate-put-search-2 c =
-    sym (length-take-le _ _ (omega (arith, fits (c .before .before .before .before) .1, c .before .before .before .before .before .before .before .before .before .before .read .kept .1 .0)))
+slice-aggregate-put-search-2 c = sym (length-take-le _ _ (fits (c .before .before .before .before) .2))
 
 array-share-prefix-flags : tie.Need-array-share-prefix-flags
-array-share-prefix-flags c = omega (arith, fits (c .before .before .before .before) .2, c .before .before .before .before .before .before .before .before .before .before .read .kept .1 .1 .0)
+array-share-prefix-flags c = fits (c .before .before .before .before) .3
 
 slice-aggregate-put-search-3 : tie.Need-slice-aggregate-put-search-3
-slice-aggregate-put-search-3 c =
-    sym (length-take-le _ _ (omega (arith, fits (c .before .before .before .before .before) .2, c .before .before .before .before .before .before .before .before .before .before .before .read .kept .1 .1 .0)))
+slice-aggregate-put-search-3 c = sym (length-take-le _ _ (fits (c .before .before .before .before .before) .3))
 
 slice-aggregate-put-search-4 : tie.Need-slice-aggregate-put-search-4
 slice-aggregate-put-search-4 c = search needs
 
 put-search-requires : tie.Need-put-search-requires
 put-search-requires c κs =
-    read-given 257 1024 256 512 _ _ _ _ _ _ _ (read-is (c .before .before .before .before .before .before)) 256 (omega (arith, c .before .before .before .before .before .before .before .before .before .before .before .before .read .kept .1 .1 .0))
+    let read = c .before .before .before .before .before .before in
+    read-given 257 1024 256 512 _ _ _ _ _ _ _ (read-is read) 256 (omega (arith, read-at read .read .kept .1 .1 .0))
 
 returns-3 : tie.Need-returns-3
 returns-3 c =
