@@ -12,7 +12,7 @@ use Rattle.asked.specs.Digits.{digitOf, isNumber}
 use Rattle.asked.specs.Asked.{Call, called, isEnd, isDash, asks}
 
 abbrev Within : Asked → List ℕ → Type 0
-Within (Run workers to-end turns) after = turns ≤ length after
+Within (Run workers ending turns) after = turns ≤ length after
 Within Usage after = Unit {0}
 
 abbrev Fits : Call → Type 0

@@ -11,7 +11,7 @@ ghost use Rattle.asked.specs.Asked.{called, asks, isEnd, isDash};
 pub enum Asked {
     Run {
         workers: usize,
-        to_end: bool,
+        ending: bool,
         turns: usize,
     },
     Usage,
@@ -27,14 +27,14 @@ pub fn ask(workers: &[u8], turns: &mut [u8]) -> Asked
     if is_end(turns) {
         return Asked::Run {
             workers: count_of(workers),
-            to_end: true,
+            ending: true,
             turns: 0,
         };
     }
     if is_dash(turns) {
         return Asked::Run {
             workers: count_of(workers),
-            to_end: false,
+            ending: false,
             turns: 0,
         };
     }
@@ -44,7 +44,7 @@ pub fn ask(workers: &[u8], turns: &mut [u8]) -> Asked
     digits_off(turns);
     Asked::Run {
         workers: count_of(workers),
-        to_end: false,
+        ending: false,
         turns: turns.len(),
     }
 }

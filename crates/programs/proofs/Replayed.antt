@@ -66,54 +66,54 @@ resultLines label P r =
 
 -- the turns that are checked, and those that are run
 abbrev pub checked : Bool → List ℕ → List ℕ
-checked to-end turns = cond to-end [] turns
+checked ending turns = cond ending [] turns
 
 abbrev pub turnsRun : Graph → ℕ → Bool → List ℕ → List ℕ
-turnsRun g P to-end turns = cond to-end (rounds P (mostMoves g P)) turns
+turnsRun g P ending turns = cond ending (rounds P (mostMoves g P)) turns
 
 module _ (turns : List ℕ) (workers : ℕ) (offsets targets flags words lasso : List ℕ) where
   abbrev g : Graph
   g = graphOf offsets targets flags
 
   -- both runs are a run over a list
-  ran-is : (to-end : Bool)
-      → ran to-end turns workers offsets targets flags words lasso
-      ≡ unless (refusalOf (length words) (length lasso) (checked to-end turns) offsets targets flags (named to-end workers))
-      (left (length flags) (named to-end workers) (run g (named to-end workers) (turnsRun g (named to-end workers) to-end turns)) words lasso)
+  ran-is : (ending : Bool)
+      → ran ending turns workers offsets targets flags words lasso
+      ≡ unless (refusalOf (length words) (length lasso) (checked ending turns) offsets targets flags (named ending workers))
+      (left (length flags) (named ending workers) (run g (named ending workers) (turnsRun g (named ending workers) ending turns)) words lasso)
       words lasso zeroes
   unfolding ran outcome outcomeToEnd named
   ran-is true = refl
   ran-is false = refl
 
-  module _ (label label′ : ℕ → List ℕ) (to-end : Bool) where
+  module _ (label label′ : ℕ → List ℕ) (ending : Bool) where
     abbrev P : ℕ
-    P = named to-end workers
+    P = named ending workers
 
     abbrev number : ℕ
-    number = refusalOf (length words) (length lasso) (checked to-end turns) offsets targets flags P
+    number = refusalOf (length words) (length lasso) (checked ending turns) offsets targets flags P
 
     abbrev end : Result
-    end = run g P (turnsRun g P to-end turns)
+    end = run g P (turnsRun g P ending turns)
 
     abbrev out : Lent
-    out = ran to-end turns workers offsets targets flags words lasso
+    out = ran ending turns workers offsets targets flags words lasso
 
     abbrev printed : Lent → List ℕ
     printed k = runLines label (k .lasso) (k .tells) (k .tally) ++ endLines label (k .room) (length flags) P (k .tells)
 
     refused-lines : number ≢ 0 → printed out ≡ refusedLine number 0
     refused-lines ne =
-        ap printed (ran-is to-end ∙ unless-not number (left (length flags) P end words lasso) words lasso zeroes ne) ∙ append-nil (refusedLine number 0)
+        ap printed (ran-is ending ∙ unless-not number (left (length flags) P end words lasso) words lasso zeroes ne) ∙ append-nil (refusedLine number 0)
 
     module _ (answered : number ≡ 0) (same : (s : ℕ) → s < length flags → label s ≡ label′ s) where
-      known : Fine (length words) (length lasso) (checked to-end turns) offsets targets flags P
-      known = fine (length words) (length lasso) (checked to-end turns) offsets targets flags P answered
+      known : Fine (length words) (length lasso) (checked ending turns) offsets targets flags P
+      known = fine (length words) (length lasso) (checked ending turns) offsets targets flags P answered
 
       sound : Sound g
       sound = graph-of-words offsets targets flags (known .graph)
 
-      in-list : Named P (turnsRun g P to-end turns)
-      in-list = go to-end (known .named)
+      in-list : Named P (turnsRun g P ending turns)
+      in-list = go ending (known .named)
         where
           go : (b : Bool) → Named P (checked b turns) → Named P (turnsRun g P b turns)
           go true h = rounds-named P (mostMoves g P)
@@ -129,8 +129,8 @@ module _ (turns : List ℕ) (workers : ℕ) (offsets targets flags words lasso :
           (λ q m.
           same-worker label label′ q (ownAt l (length flags) q) (ownOf (end .machine .worker q))
           (own-seen (length flags) P q (upFrom-below 0 P P (omega arith) q m) (end .machine) rest l
-          (record { form = refl; fits = run-fits g P sound (known .some) (turnsRun g P to-end turns) in-list }))
-          (λ z e. same z (seeds-inside g P sound (known .some) (turnsRun g P to-end turns) in-list q z e)))
+          (record { form = refl; fits = run-fits g P sound (known .some) (turnsRun g P ending turns) in-list }))
+          (λ z e. same z (seeds-inside g P sound (known .some) (turnsRun g P ending turns) in-list q z e)))
 
       end-lines : (a : Answer) (used : ℕ) (rest : List ℕ)
           → endLines label (room (length flags) P (end .machine) ++ rest) (length flags) P (tellsOf a used)
@@ -144,12 +144,12 @@ module _ (turns : List ℕ) (workers : ℕ) (offsets targets flags words lasso :
       unfolding graphOf graph
       in-answer stem loop e s m =
           same s
-          (lasso-inside g sound stem loop (cycle-is-lasso g P sound (known .some) (turnsRun g P to-end turns) in-list stem loop e) s m)
+          (lasso-inside g sound stem loop (cycle-is-lasso g P sound (known .some) (turnsRun g P ending turns) in-list stem loop e) s m)
 
       run-lines : printed out ≡ resultLines label′ P end
       unfolding left
       run-lines =
-          ap printed (ran-is to-end ∙ unless-0 number (left (length flags) P end words lasso) words lasso zeroes answered)
+          ap printed (ran-is ending ∙ unless-0 number (left (length flags) P end words lasso) words lasso zeroes answered)
           ∙ rw (
             told-lines label (end .answer) (end .used) lasso (end .tally),
             same-lines label label′ (end .answer) (end .tally) in-answer,
@@ -162,12 +162,12 @@ sized : (a b : ℕ) (turns offsets targets flags : List ℕ) (P : ℕ)
 sized a b turns offsets targets flags P = rw (length-replicate {A = ℕ} a 0, length-replicate {A = ℕ} b 0)
 
 -- A text that is refused; one that is read, with a worker count or a turn list that is refused; and one that is read and run.
-module _ (to-end : Bool) (turns : List ℕ) (workers : ℕ) (text : List ℕ) where
+module _ (ending : Bool) (turns : List ℕ) (workers : ℕ) (text : List ℕ) where
   pub replayed-refused : (number line : ℕ) → meaning (roomsOf 4097 16384 4096 8192) text ≡ refused number line
-      → replayed to-end turns workers text ≡ refusedLine number line
+      → replayed ending turns workers text ≡ refusedLine number line
   unfolding replayed reader.outcome
   replayed-refused number line e =
-      ap (λ m. linesOf to-end turns workers text (filled 4097 16384 4096 8192 m) (filled 4097 16384 4096 8192 m .tells)) e
+      ap (λ m. linesOf ending turns workers text (filled 4097 16384 4096 8192 m) (filled 4097 16384 4096 8192 m .tells)) e
 
   module _ (seen : Seen) (means : meaning (roomsOf 4097 16384 4096 8192) text ≡ reads seen) where
     abbrev n : ℕ
@@ -183,37 +183,37 @@ module _ (to-end : Bool) (turns : List ℕ) (workers : ℕ) (text : List ℕ) wh
     flags = flagsOf (seen .states)
 
     abbrev refusal : ℕ
-    refusal = refusalOf (roomSize 4096 8) 8192 (checked to-end turns) offsets targets flags (named to-end workers)
+    refusal = refusalOf (roomSize 4096 8) 8192 (checked ending turns) offsets targets flags (named ending workers)
 
-    replayed-lines : replayed to-end turns workers text
-        ≡ replayLines to-end turns workers text offsets targets flags (padded 8192 (placesOf (seen .states)))
+    replayed-lines : replayed ending turns workers text
+        ≡ replayLines ending turns workers text offsets targets flags (padded 8192 (placesOf (seen .states)))
     unfolding replayed reader.outcome
     replayed-lines =
-        ap (λ m. linesOf to-end turns workers text (filled 4097 16384 4096 8192 m) (filled 4097 16384 4096 8192 m .tells)) means
+        ap (λ m. linesOf ending turns workers text (filled 4097 16384 4096 8192 m) (filled 4097 16384 4096 8192 m .tells)) means
         ∙ rw (
           offsets-first 4097 16384 4096 8192 text seen means,
           targets-first 4097 16384 4096 8192 text seen means,
           flags-first 4097 16384 4096 8192 text seen means,
         )
 
-    pub replayed-not-run : refusal ≢ 0 → replayed to-end turns workers text ≡ refusedLine refusal 0
+    pub replayed-not-run : refusal ≢ 0 → replayed ending turns workers text ≡ refusedLine refusal 0
     unfolding replayLines
     replayed-not-run ne =
-        let same = sized (roomSize 4096 8) 8192 (checked to-end turns) offsets targets flags (named to-end workers) in
+        let same = sized (roomSize 4096 8) 8192 (checked ending turns) offsets targets flags (named ending workers) in
         let label = labelAt text (padded 8192 (placesOf (seen .states))) in
         replayed-lines
-        ∙ refused-lines turns workers offsets targets flags (zeros (roomSize 4096 8)) (zeros 8192) label label to-end (λ e. ne (sym same ∙ e))
+        ∙ refused-lines turns workers offsets targets flags (zeros (roomSize 4096 8)) (zeros 8192) label label ending (λ e. ne (sym same ∙ e))
         ∙ ap (λ k. refusedLine k 0) same
 
     pub replayed-run : refusal ≡ 0
-        → replayed to-end turns workers text
-        ≡ resultLines (labelIn (seen .states)) (named to-end workers)
-        (run (graphOf offsets targets flags) (named to-end workers)
-        (turnsRun (graphOf offsets targets flags) (named to-end workers) to-end turns))
+        → replayed ending turns workers text
+        ≡ resultLines (labelIn (seen .states)) (named ending workers)
+        (run (graphOf offsets targets flags) (named ending workers)
+        (turnsRun (graphOf offsets targets flags) (named ending workers) ending turns))
     unfolding replayLines
     replayed-run z =
-        let same = sized (roomSize 4096 8) 8192 (checked to-end turns) offsets targets flags (named to-end workers) in
+        let same = sized (roomSize 4096 8) 8192 (checked ending turns) offsets targets flags (named ending workers) in
         let label = labelAt text (padded 8192 (placesOf (seen .states))) in
         replayed-lines
-        ∙ run-lines turns workers offsets targets flags (zeros (roomSize 4096 8)) (zeros 8192) label (labelIn (seen .states)) to-end (same ∙ z)
+        ∙ run-lines turns workers offsets targets flags (zeros (roomSize 4096 8)) (zeros 8192) label (labelIn (seen .states)) ending (same ∙ z)
         (λ s h. label-named 4097 16384 4096 8192 text seen means s (omega (arith, h, flags-long (seen .states))))

@@ -16,24 +16,24 @@ abbrev pub reading : List ℕ → reader.Outcome
 reading text = reader.outcome 4097 16384 4096 8192 text
 
 unfoldable pub ran : Bool → (turns : List ℕ) → ℕ → (offsets targets flags room lasso : List ℕ) → Lent
-ran to-end turns workers offsets targets flags room lasso =
-    cond to-end (outcomeToEnd offsets targets flags workers room lasso zeroes) (outcome turns offsets targets flags workers room lasso zeroes)
+ran ending turns workers offsets targets flags room lasso =
+    cond ending (outcomeToEnd offsets targets flags workers room lasso zeroes) (outcome turns offsets targets flags workers room lasso zeroes)
 
 -- how many workers run
 unfoldable pub named : Bool → ℕ → ℕ
-named to-end workers = cond to-end (usual workers) workers
+named ending workers = cond ending (usual workers) workers
 
 unfoldable pub replayLines : Bool → (turns : List ℕ) → ℕ → (text offsets targets flags places : List ℕ) → List ℕ
-replayLines to-end turns workers text offsets targets flags places =
-    let out = ran to-end turns workers offsets targets flags (reader.zeros (roomSize 4096 8)) (reader.zeros 8192) in
+replayLines ending turns workers text offsets targets flags places =
+    let out = ran ending turns workers offsets targets flags (reader.zeros (roomSize 4096 8)) (reader.zeros 8192) in
     runLines (labelAt text places) (out .lasso) (out .tells) (out .tally)
-    ++ endLines (labelAt text places) (out .room) (length flags) (named to-end workers) (out .tells)
+    ++ endLines (labelAt text places) (out .room) (length flags) (named ending workers) (out .tells)
 
 -- the lines of a reading
 abbrev pub linesOf : Bool → (turns : List ℕ) → ℕ → List ℕ → reader.Outcome → reader.Told → List ℕ
-linesOf to-end turns workers text out (reader.graph n e) =
-    replayLines to-end turns workers text (take (n + 1) (out .offsets)) (take e (out .targets)) (take n (out .flags)) (out .places)
-linesOf to-end turns workers text out (reader.refusal number line) = refusedLine number line
+linesOf ending turns workers text out (reader.graph n e) =
+    replayLines ending turns workers text (take (n + 1) (out .offsets)) (take e (out .targets)) (take n (out .flags)) (out .places)
+linesOf ending turns workers text out (reader.refusal number line) = refusedLine number line
 
 unfoldable pub replayed : Bool → (turns : List ℕ) → ℕ → List ℕ → List ℕ
-replayed to-end turns workers text = linesOf to-end turns workers text (reading text) (reading text .tells)
+replayed ending turns workers text = linesOf ending turns workers text (reading text) (reading text .tells)

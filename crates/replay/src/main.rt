@@ -37,17 +37,17 @@ fn answer(workers: &[u8], turns: &mut [u8]) {
     let asked = ask(workers, turns);
     let Asked::Run {
         workers,
-        to_end,
+        ending,
         turns: count,
     } = asked
     else {
         print(b"usage\treplay WORKERS TURNS\n");
         return;
     };
-    replay(workers, to_end, &turns[..count]);
+    replay(workers, ending, &turns[..count]);
 }
 
-fn replay(workers: usize, to_end: bool, turns: &[u8]) {
+fn replay(workers: usize, ending: bool, turns: &[u8]) {
     let mut text = blank();
     let got = input::all(0, &mut text);
     let Input::Bytes(n) = got else {
@@ -55,7 +55,7 @@ fn replay(workers: usize, to_end: bool, turns: &[u8]) {
         return;
     };
     let mut page = [0u8; 196608];
-    let k = replay_page(&mut page, workers, to_end, turns, &text[..n]);
+    let k = replay_page(&mut page, workers, ending, turns, &text[..n]);
     print(&page[..k]);
 }
 
