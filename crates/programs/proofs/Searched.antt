@@ -14,10 +14,11 @@ use Rattle.graphs.proofs.Lasso.{lasso-inside}
 use Rattle.graphs.proofs.Member.{mem-left, mem-right}
 use Rattle.moves.specs.declared.Tally.{Tally}
 use Rattle.moves.specs.Room.{roomSize}
-use Rattle.moves.specs.Run.{Answer, cycle, none, undecided, Result, rounds}
-use Rattle.theory.specs.Turns.{runToEnd, mostMoves}
+use Rattle.moves.specs.Run.{Answer, cycle, none, undecided, Result, begin, rounds}
+use Rattle.theory.specs.Turns.{Decided, Right, runToEnd, mostMoves}
+use Rattle.theory.proofs.Run.{run-stands, begin-stands}
 use Rattle.theory.proofs.Ends.{rounds-named}
-use Rattle.theory.proofs.Demands.{graph-of-words, cycle-is-lasso}
+use Rattle.theory.proofs.Demands.{graph-of-words, cycle-is-lasso, end-decides}
 use Rattle.limits.specs.Refusals.{refusalOf, usual}
 use Rattle.ends.specs.Told.{tellsOf, shown}
 use Rattle.statelist.specs.Text.{Seen, reads, refused, meaning}
@@ -140,3 +141,10 @@ module _ (text : List ℕ) (short : length text ≤ most-input) where
         (lines-run places)
         ∙ same-lines (labelAt text places) (labelIn (seen .states)) (end .answer) (end .tally)
         (λ stem loop e s m. label-named 257 1024 256 512 text seen means s (inside stem loop e s m))
+
+    -- 2. of that run: "cycle" comes with a lasso of the text's graph, "none" is said only if no loop through a mark can be reached; and it is one of them
+    pub searched-right : Right g 2 (end .machine) (end .answer) × Decided (end .answer)
+    searched-right =
+        let sound = graph-of-words offsets targets flags is in
+        let named = rounds-named 2 (mostMoves g 2) in
+        (run-stands g 2 sound (omega arith) begin (rounds 2 (mostMoves g 2)) named (begin-stands g 2 sound (omega arith)), end-decides g 2 sound (omega arith))
