@@ -4,6 +4,7 @@ pub mod Lines
 pub mod Shown
 pub mod Pages
 pub mod Reading
+pub mod Answers
 pub mod Searched
 pub mod Replayed
 pub mod Cases

@@ -7,10 +7,8 @@ use mathlib.Core.List.{List, [], _∷_, _++_, append-nil}
 use mathlib.Core.Logic.{_≢_}
 use lib.ListN.{length, drop, length-replicate}
 use native.Mathlib.Omega.{arith}
-use Rattle.graphs.specs.Lists.{Mem}
 use Rattle.graphs.specs.Graph.{Graph, graph, Sound}
 use Rattle.graphs.specs.Words.{graphOf}
-use Rattle.graphs.proofs.Lasso.{lasso-inside}
 use Rattle.moves.specs.declared.Place.{Place}
 use Rattle.moves.specs.declared.Place.the-variants.{Fresh, Outer, Inner, Waiting, Done}
 use Rattle.moves.specs.Tally.{zeroes}
@@ -21,7 +19,7 @@ use Rattle.theory.specs.Invariant.{SeedAt}
 use Rattle.theory.specs.Turns.{Named, mostMoves}
 use Rattle.theory.proofs.Ends.{rounds-named}
 use Rattle.theory.proofs.Rooms.{run-fits}
-use Rattle.theory.proofs.Demands.{graph-of-words, cycle-is-lasso, seeds-inside}
+use Rattle.theory.proofs.Demands.{graph-of-words, seeds-inside}
 use Rattle.stretch.specs.declared.Own.{Own}
 use Rattle.stretch.specs.Own.{ownOf}
 use Rattle.stretch.proofs.Owned.{own-seen}
@@ -42,7 +40,7 @@ use Rattle.page.specs.Numbers.{numbersLine}
 use Rattle.page.proofs.Pieces.{joined-same}
 use Rattle.report.specs.Report.{refusedLine, runLines, seedField, labelField, workerLine, workerLines, ownAt, usedLines, endLines}
 use Rattle.programs.specs.Replay.{ran, named, replayLines, linesOf, replayed}
-use Rattle.programs.proofs.Searched.{answerLines, told-lines, same-lines}
+use Rattle.programs.proofs.Answers.{answerLines, told-lines, run-same}
 
 -- the labels of other states than the seed don't count in a worker's line
 same-seed : (label label′ : ℕ → List ℕ) (p : Place) → ((z : ℕ) → SeedAt p z → label z ≡ label′ z) → seedField label p ≡ seedField label′ p
@@ -140,19 +138,13 @@ module _ (turns : List ℕ) (workers : ℕ) (offsets targets flags words lasso :
       end-lines none used rest = ap (λ l. numbersLine (bytes "used") (used ∷ []) ++ l) (own-lines rest)
       end-lines undecided used rest = ap (λ l. numbersLine (bytes "used") (used ∷ []) ++ l) (own-lines rest)
 
-      in-answer : (stem loop : List ℕ) → end .answer ≡ cycle stem loop → (s : ℕ) → Mem s (stem ++ loop) → label s ≡ label′ s
-      unfolding graphOf graph
-      in-answer stem loop e s m =
-          same s
-          (lasso-inside g sound stem loop (cycle-is-lasso g P sound (known .some) (turnsRun g P ending turns) in-list stem loop e) s m)
-
       run-lines : printed out ≡ resultLines label′ P end
       unfolding left
       run-lines =
           ap printed (ran-is ending ∙ unless-0 number (left (length flags) P end words lasso) words lasso zeroes answered)
           ∙ rw (
             told-lines label (end .answer) (end .used) lasso (end .tally),
-            same-lines label label′ (end .answer) (end .tally) in-answer,
+            run-same label label′ offsets targets flags (known .graph) P (known .some) (turnsRun g P ending turns) in-list same (end .tally),
             end-lines (end .answer) (end .used) (drop (roomSize (length flags) P) words),
           )
 

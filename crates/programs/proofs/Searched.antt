@@ -1,26 +1,21 @@
--- What the pages say of the graph of a text, without rooms and words: they are the lines of the run on that graph.
-use Prim.Native.Nat.{ℕ, _+_, _*_, _≤_, _<_}
-use mathlib.Core.Path.{_≡_, refl, ap, _∙_}
+-- What the page of `skiffplank` says of the graph of a text, without rooms and words: it is the lines of the run on that graph.
+use Prim.Native.Nat.{ℕ, _*_, _≤_, _<_}
+use mathlib.Core.Path.{_≡_, ap, _∙_}
 use mathlib.Core.Bool.{true}
-use mathlib.Core.List.{List, [], _++_, append-assoc}
-use lib.ListN.{length, drop, length-replicate}
-use lib.Seq.{take-at, drop-at}
+use mathlib.Core.List.{List, []}
+use lib.ListN.{length, length-replicate}
 use native.Mathlib.Omega.{arith}
 use borrow.Author.Tests.{le-ltb, lt-ltb, le-leb}
-use Rattle.graphs.specs.Lists.{Mem, all}
-use Rattle.graphs.specs.Graph.{Graph, graph}
+use Rattle.graphs.specs.Lists.{all}
+use Rattle.graphs.specs.Graph.{Graph}
 use Rattle.graphs.specs.Words.{graphOf, isGraph}
-use Rattle.graphs.proofs.Lasso.{lasso-inside}
-use Rattle.graphs.proofs.Member.{mem-left, mem-right}
-use Rattle.moves.specs.declared.Tally.{Tally}
 use Rattle.moves.specs.Room.{roomSize}
-use Rattle.moves.specs.Run.{Answer, cycle, none, undecided, Result, begin, rounds}
+use Rattle.moves.specs.Run.{Result, begin, rounds}
 use Rattle.theory.specs.Turns.{Decided, Right, runToEnd, mostMoves}
 use Rattle.theory.proofs.Run.{run-stands, begin-stands}
 use Rattle.theory.proofs.Ends.{rounds-named}
-use Rattle.theory.proofs.Demands.{graph-of-words, cycle-is-lasso, end-decides}
+use Rattle.theory.proofs.Demands.{graph-of-words, end-decides}
 use Rattle.limits.specs.Refusals.{refusalOf, usual}
-use Rattle.ends.specs.Told.{tellsOf, shown}
 use Rattle.statelist.specs.Text.{Seen, reads, refused, meaning}
 use Rattle.statelist.specs.Lists.{zeros, padded, placesOf, flagsOf, targetsOf, offsetsOf, roomsOf, filled, outcome}
 use Rattle.statelist.specs.Labels.{labelAt}
@@ -28,45 +23,9 @@ use Rattle.statelist.proofs.Good.{labelIn}
 use Rattle.statelist.proofs.Filled.{states-fit, meaning-graph, offsets-first, targets-first, flags-first, flags-long}
 use Rattle.statelist.proofs.Labels.{label-named}
 use Rattle.search.specs.Outcomes.{left, outcomeToEnd}
-use Rattle.page.specs.Words.{bytes}
-use Rattle.page.proofs.Pieces.{joined-same}
-use Rattle.report.specs.Report.{refusedLine, stateLine, tallyLine, cycleLines, runLines}
+use Rattle.report.specs.Report.{refusedLine}
+use Rattle.programs.proofs.Answers.{answerLines, told-lines, run-same}
 use Rattle.programs.specs.Skiffplank.{most-input, reading, searchLines, linesOf, searched}
-
--- the lines of an answer
-abbrev pub answerLines : (ℕ → List ℕ) → Answer → Tally → List ℕ
-answerLines label (cycle stem loop) t = cycleLines label stem loop t
-answerLines label none t = bytes "answer\tnone\n" ++ tallyLine t
-answerLines label undecided t = bytes "answer\tundecided\n" ++ tallyLine t
-
--- stem and loop are what the lasso room shows of them
-pub told-lines : (label : ℕ → List ℕ) (a : Answer) (used : ℕ) (lasso : List ℕ) (t : Tally)
-    → runLines label (shown a lasso) (tellsOf a used) t ≡ answerLines label a t
-told-lines label (cycle stem loop) used lasso t =
-    let rest = drop (length (stem ++ loop)) lasso in
-    rw (
-      append-assoc stem loop rest,
-      take-at stem (loop ++ rest) (length stem) refl,
-      drop-at stem (loop ++ rest) (length stem) refl,
-      take-at loop rest (length loop) refl,
-    )
-told-lines label none used lasso t = refl
-told-lines label undecided used lasso t = refl
-
--- the labels of other states than the answer's don't count
-pub same-lines : (label label′ : ℕ → List ℕ) (a : Answer) (t : Tally)
-    → ((stem loop : List ℕ) → a ≡ cycle stem loop → (s : ℕ) → Mem s (stem ++ loop) → label s ≡ label′ s)
-    → answerLines label a t ≡ answerLines label′ a t
-unfolding cycleLines
-same-lines label label′ (cycle stem loop) t h =
-    rw (
-      joined-same (λ s. stateLine (bytes "stem\t") (label s)) (λ s. stateLine (bytes "stem\t") (label′ s)) stem
-          (λ s m. ap (stateLine (bytes "stem\t")) (h stem loop refl s (mem-left s stem loop m))),
-      joined-same (λ s. stateLine (bytes "loop\t") (label s)) (λ s. stateLine (bytes "loop\t") (label′ s)) loop
-          (λ s m. ap (stateLine (bytes "loop\t")) (h stem loop refl s (mem-right s stem loop m))),
-    )
-same-lines label label′ none t h = refl
-same-lines label label′ undecided t h = refl
 
 -- a text that is longer than the program takes, one that is refused, and one that is read
 pub searched-long : (text : List ℕ) → most-input < length text → searched text ≡ refusedLine 1 0
@@ -113,14 +72,6 @@ module _ (text : List ℕ) (short : length text ≤ most-input) where
     not-refused =
         rw (is, le-leb (roomSize (length flags) 2) (roomSize 256 2) (omega (arith, few)), le-leb (2 * length flags) 512 (omega (arith, few)))
 
-    inside : (stem loop : List ℕ) → end .answer ≡ cycle stem loop → (s : ℕ) → Mem s (stem ++ loop) → s < n
-    unfolding graphOf graph
-    inside stem loop e s m =
-        let sound = graph-of-words offsets targets flags is in
-        let found = cycle-is-lasso g 2 sound (omega arith) (rounds 2 (mostMoves g 2)) (rounds-named 2 (mostMoves g 2)) stem loop e in
-        let below = lasso-inside g sound stem loop found s m in
-        omega (arith, below, flags-long (seen .states))
-
     lines-run : (places : List ℕ) → searchLines text offsets targets flags places ≡ answerLines (labelAt text places) (end .answer) (end .tally)
     unfolding searchLines outcomeToEnd left usual
     lines-run places =
@@ -139,8 +90,9 @@ module _ (text : List ℕ) (short : length text ≤ most-input) where
           flags-first 257 1024 256 512 text seen means,
         )
         (lines-run places)
-        ∙ same-lines (labelAt text places) (labelIn (seen .states)) (end .answer) (end .tally)
-        (λ stem loop e s m. label-named 257 1024 256 512 text seen means s (inside stem loop e s m))
+        ∙ run-same (labelAt text places) (labelIn (seen .states)) offsets targets flags is 2 (omega arith) (rounds 2 (mostMoves g 2))
+        (rounds-named 2 (mostMoves g 2))
+        (λ s h. label-named 257 1024 256 512 text seen means s (omega (arith, h, flags-long (seen .states)))) (end .tally)
 
     -- 2. of that run: "cycle" comes with a lasso of the text's graph, "none" is said only if no loop through a mark can be reached; and it is one of them
     pub searched-right : Right g 2 (end .machine) (end .answer) × Decided (end .answer)
