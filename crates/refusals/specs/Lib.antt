@@ -1,0 +1,2 @@
+-- 01's number and line of what was told.
+pub mod Refusals
