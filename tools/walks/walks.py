@@ -382,7 +382,7 @@ class Walk:
         for g in s.con.ghost + [g for h in s.callees for g in src.fns[h].ghost]:
             m = re.match(r'(.*)\.\{(.*)\}$', g); ns = [x.strip() for x in m[2].split(',') if x.strip().split(' as ')[-1] not in have]; have |= {x.split(' as ')[-1] for x in ns}
             if ns: o.append(f'use {m[1]}.{{{", ".join(ns)}}}')
-        o += [f'use Rattle.{s.crate}.proofs.Again as Again'] + [f'use Rattle.{s.crate}.proofs.{l} as {a}' for l, a in s.laws]
+        o += [f'use {src.mod("search::Again")} as Again'] + [f'use Rattle.{s.crate}.proofs.{l} as {a}' for l, a in s.laws]
         for g in s.callees: m = src.mod(g); o += [f'use {m} as {s.cn(g)}', f'use {m}.Symbol as {s.cn(g)}-def', f'use {m}.Symbol.{{name as #{s.ck(g)}}}', f'use {m}.Met as {s.cn(g)}-thm']
         m = src.mod(s.path)
         o += [f'use {m}.Key.{{name as #{s.ck(s.path)}}}', f'use {m} as f', f'use {m}.Statement as stated', f'use {m}.Code as code', f'use {m}.Code.Mir as code-mir']

@@ -148,7 +148,8 @@ pub enum Move {
     Rest,
 }
 
-// 01: "outer entries, inner entries, waits, and moves that change something"
+// 01: "outer entries, inner entries, waits, and moves that change something". Its layout is that of C: `skiffplank_c` lends it on.
+#[repr(C)]
 pub struct Tally {
     pub outer: u64,
     pub inner: u64,

@@ -64,6 +64,18 @@ run-refusal (told-none used) some = absurd (some refl)
 run-refusal (told-undecided used) some = absurd (some refl)
 run-refusal (told-refusal number line) some = refl
 
+-- an outcome that is no answer
+pub no-answer-refusal : (r : Outcome) → ((stem round used : ℕ) → r ≢ Cycle stem round used) → ((used : ℕ) → r ≢ None used)
+    → ((used : ℕ) → r ≢ Undecided used) → told r ≡ told-refusal (ofRun (told r) .number) 0
+no-answer-refusal (Cycle stem round used) cycle none undecided = absurd (cycle stem round used refl)
+no-answer-refusal (None used) cycle none undecided = absurd (none used refl)
+no-answer-refusal (Undecided used) cycle none undecided = absurd (undecided used refl)
+no-answer-refusal NoWorkers cycle none undecided = refl
+no-answer-refusal NoGraph cycle none undecided = refl
+no-answer-refusal RoomShort cycle none undecided = refl
+no-answer-refusal LassoShort cycle none undecided = refl
+no-answer-refusal NoSuchWorker cycle none undecided = refl
+
 pub run-most : (r : Outcome) → (ofRun (told r) .number ≤ 13) × (ofRun (told r) .line ≡ 0)
 run-most (Cycle stem round used) = (omega arith, refl)
 run-most (None used) = (omega arith, refl)

@@ -13,6 +13,7 @@ use Rattle.graphs.specs.Graph.{Graph, graph, Sound}
 use Rattle.graphs.specs.Lasso.{Lasso, MarkedLoop}
 use Rattle.graphs.specs.Words.{graphOf, isGraph}
 use Rattle.graphs.proofs.Tests.{same?}
+use Rattle.graphs.proofs.Once.{once-bound}
 use Rattle.graphs.proofs.Lasso.{lasso-inside}
 use Rattle.moves.specs.declared.Tally.{Tally}
 use Rattle.moves.specs.Moves.{turn}
@@ -22,7 +23,8 @@ use Rattle.moves.specs.Run.{Answer, cycle, none, undecided, Result, next, run, 
 use Rattle.theory.specs.Invariant.{SeedAt}
 use Rattle.theory.specs.Turns.{Named, Cut, CanMove, Decided, Word, word-cycle, word-none, word-undecided, wordOf, mostMoves}
 use Rattle.theory.proofs.Ends.{rounds-named, rounds-cut}
-use Rattle.theory.proofs.Demands.{graph-of-words, each-turn-moves, cycle-is-lasso, none-is-none, undecided-ran-out, some-worker-moves, seeds-inside}
+use Rattle.theory.proofs.Demands.{graph-of-words, each-turn-moves, cycle-is-lasso, lasso-once, none-is-none, undecided-ran-out}
+use Rattle.theory.proofs.Demands.{some-worker-moves, seeds-inside}
 use Rattle.theory.proofs.Demands.{words-moves-bounded, words-cut-decides, cut-same-word, words-most}
 use Rattle.theory.proofs.Rooms.{run-fits}
 use Rattle.stretch.specs.Own.{ownOf, ownIn}
@@ -178,28 +180,44 @@ module _ {offsets targets flags turns : List ℕ} {P number : ℕ} {l lasso : Li
         go none d q = let z = ap wordNumber q in omega (arith, z)
         go undecided d q = d
 
-    -- 2. ""cycle" comes with a real path from the initial state and a real loop holding a marked state": stem and then loop, in the lasso room
-    pub cycle-shown : (stem loop used : ℕ) → told r ≡ told-cycle stem loop used
-        → (stem + loop ≤ length lasso′) × Lasso g (take stem lasso′) (take loop (drop stem lasso′))
-    cycle-shown stem loop used e = go (end .answer) refl
+    -- a told "cycle" is the run's, with the lengths of its stem and loop
+    cycle-found : (stem loop used : ℕ) → told r ≡ told-cycle stem loop used
+        → (xs : List ℕ) × (ys : List ℕ) × (end .answer ≡ cycle xs ys) × (length xs ≡ stem) × (length ys ≡ loop)
+    cycle-found stem loop used e = go (end .answer) refl
       where
-        go : (a : Answer) → end .answer ≡ a → (stem + loop ≤ length lasso′) × Lasso g (take stem lasso′) (take loop (drop stem lasso′))
+        go : (a : Answer) → end .answer ≡ a → (xs : List ℕ) × (ys : List ℕ) × (end .answer ≡ cycle xs ys) × (length xs ≡ stem) × (length ys ≡ loop)
         go (cycle xs ys) q =
             let same : told-cycle (length xs) (length ys) (end .used) ≡ told-cycle stem loop used = sym (tells-is ∙ ap (λ a. tellsOf a (end .used)) q) ∙ e in
             let stem-long : length xs ≡ stem = cc in
             let loop-long : length ys ≡ loop = cc in
-            let words : lasso′ ≡ xs ++ (ys ++ drop (length (xs ++ ys)) lasso) = lasso-is ∙ ap (λ a. shown a lasso) q ∙ append-assoc xs ys _ in
-            rw (
-              words,
-              take-at xs (ys ++ drop (length (xs ++ ys)) lasso) stem stem-long,
-              drop-at xs (ys ++ drop (length (xs ++ ys)) lasso) stem stem-long,
-              take-at ys (drop (length (xs ++ ys)) lasso) loop loop-long,
-              length-append xs,
-              length-append ys,
-            )
-            (omega (arith, stem-long, loop-long), cycle-is-lasso g P sound some turns named xs ys q)
+            (xs, ys, q, stem-long, loop-long)
         go none q = let z = ap wordNumber (sym (tells-is ∙ ap (λ a. tellsOf a (end .used)) q) ∙ e) in absurd (omega (arith, z))
         go undecided q = let z = ap wordNumber (sym (tells-is ∙ ap (λ a. tellsOf a (end .used)) q) ∙ e) in absurd (omega (arith, z))
+
+    -- 2. ""cycle" comes with a real path from the initial state and a real loop holding a marked state": stem and then loop, in the lasso room
+    pub cycle-shown : (stem loop used : ℕ) → told r ≡ told-cycle stem loop used
+        → (stem + loop ≤ length lasso′) × Lasso g (take stem lasso′) (take loop (drop stem lasso′))
+    cycle-shown stem loop used e =
+        let (xs, ys, q, stem-long, loop-long) = cycle-found stem loop used e in
+        let words : lasso′ ≡ xs ++ (ys ++ drop (length (xs ++ ys)) lasso) = lasso-is ∙ ap (λ a. shown a lasso) q ∙ append-assoc xs ys _ in
+        rw (
+          words,
+          take-at xs (ys ++ drop (length (xs ++ ys)) lasso) stem stem-long,
+          drop-at xs (ys ++ drop (length (xs ++ ys)) lasso) stem stem-long,
+          take-at ys (drop (length (xs ++ ys)) lasso) loop loop-long,
+          length-append xs,
+          length-append ys,
+        )
+        (omega (arith, stem-long, loop-long), cycle-is-lasso g P sound some turns named xs ys q)
+
+    -- no state stands twice in them
+    pub cycle-few : (stem loop used : ℕ) → told r ≡ told-cycle stem loop used → stem + loop ≤ length flags
+    unfolding graphOf graph
+    cycle-few stem loop used e =
+        let (xs, ys, q, stem-long, loop-long) = cycle-found stem loop used e in
+        let lasso = cycle-is-lasso g P sound some turns named xs ys q in
+        let few = once-bound (length flags) (xs ++ ys) (lasso-once g P sound some turns named xs ys q) (lasso-inside g sound xs ys lasso) in
+        omega (arith, few, length-append xs ys, stem-long, loop-long)
 
     -- and all of it are states
     pub cycle-states : (stem loop used : ℕ) → told r ≡ told-cycle stem loop used

@@ -9,8 +9,8 @@ use Rattle.skiffplank_c.proofs.skiffplank_read.Tie as tie
 read-requires : tie.Need-read-requires
 read-requires c κs = search needs
 
-answer-requires : tie.Need-answer-requires
-answer-requires c κs =
+read-answer-requires : tie.Need-read-answer-requires
+read-answer-requires c κs =
     let read-at = c .before .before .before .before .before .before .before .before in
     read-fits _ _ _ _ _ (read-at .read .result) _ _ _ _ (read-at .read .ensures)
 
@@ -27,14 +27,14 @@ same-length-4 : tie.Need-same-length-4
 same-length-4 c = search needs
 
 returns : tie.Need-returns
-returns c = rw (c .answer .ensures) (ap readCall (c .before .before .before .before .before .before .before .before .before .read .ensures))
+returns c = rw (c .read-answer .ensures) (ap readCall (c .before .before .before .before .before .before .before .before .before .read .ensures))
 
 pub skiffplank-read-spec : {M : Type 1} → statement M
 skiffplank-read-spec =
     tie.close
     (tie.spec
     read-requires
-    answer-requires
+    read-answer-requires
     same-length
     same-length-2
     same-length-3

@@ -1,2 +1,0 @@
--- That the contract settles the call.
-pub mod Settled

@@ -1,2 +1,0 @@
--- The counts of a run as four words.
-pub mod Counts
