@@ -1,62 +1,12 @@
-// The run to the end, ours and a plain one with the same rules and layout, on lists without a marked loop: search ours|plain LIST WORKERS, or
-// search time, which also compares the rooms and the tallies. A list is `few`, `half` or `all`: how many of its states are marked.
-use std::env;
-use std::time::Instant;
+// The run to the end in plain Rust with the same rules and layout as ours: it works on the words of the room, and goes over N words to test and to paint R.
 
-#[repr(C)]
-#[derive(Clone, Copy, Default, PartialEq, Debug)]
-struct Tally {
-    outer: u64,
-    inner: u64,
-    waits: u64,
-    moves: u64,
-}
-
-#[link(name = "search_c", kind = "static")]
-extern "C" {
-    fn search_c_run_to_end(
-        room: *mut u16, room_len: usize, lasso: *mut u16, lasso_len: usize, offsets: *const u16, offsets_len: usize, targets: *const u16,
-        targets_len: usize, flags: *const u16, flags_len: usize, workers: usize,
-    ) -> Tally;
-}
-
-#[inline(never)]
-fn our_run_to_end(room: &mut [u16], lasso: &mut [u16], offsets: &[u16], targets: &[u16], flags: &[u16], workers: usize) -> Tally {
-    unsafe {
-        search_c_run_to_end(
-            room.as_mut_ptr(), room.len(), lasso.as_mut_ptr(), lasso.len(), offsets.as_ptr(), offsets.len(), targets.as_ptr(), targets.len(),
-            flags.as_ptr(), flags.len(), workers,
-        )
-    }
-}
-
-// The plain one.
+use super::plain::{is_graph, Tally};
 
 const FRESH: u16 = 0;
 const OUTER: u16 = 1;
 const INNER: u16 = 2;
 const WAITING: u16 = 3;
 const DONE: u16 = 4;
-
-fn plain_is_graph(offsets: &[u16], targets: &[u16], flags: &[u16]) -> bool {
-    let (n, e) = (flags.len(), targets.len());
-    if n < 1 || n > 4096 || e > 16384 || offsets.len() != n + 1 || offsets[0] != 0 || offsets[n] as usize != e {
-        return false;
-    }
-    if offsets.windows(2).any(|w| w[1] < w[0]) || targets.iter().any(|&t| t as usize >= n) || flags.iter().any(|&f| f > 1) {
-        return false;
-    }
-    let mut stamp = vec![0u16; n];
-    for s in 0..n {
-        for &t in &targets[offsets[s] as usize..offsets[s + 1] as usize] {
-            if stamp[t as usize] == s as u16 + 1 {
-                return false;
-            }
-            stamp[t as usize] = s as u16 + 1;
-        }
-    }
-    true
-}
 
 struct Run<'a> {
     room: &'a mut [u16],
@@ -186,19 +136,12 @@ impl Run<'_> {
     }
 }
 
-#[inline(never)]
-fn plain_run_to_end(room: &mut [u16], lasso: &mut [u16], offsets: &[u16], targets: &[u16], flags: &[u16], workers: usize) -> Tally {
+/// The run to the end on words that are a graph, with rooms that are large enough; the tally of the run.
+pub fn run_to_end(room: &mut [u16], lasso: &mut [u16], offsets: &[u16], targets: &[u16], flags: &[u16], workers: usize) -> Tally {
     let mut tally = Tally::default();
-    let workers = if workers == 0 { 2 } else { workers };
     let n = flags.len();
-    if workers > 8 || !plain_is_graph(offsets, targets, flags) {
-        return tally;
-    }
-    let need = 2 * n + workers * (5 * n + 4);
-    if room.len() < need || lasso.len() < 2 * n {
-        return tally;
-    }
-    room[..need].fill(0);
+    assert!(is_graph(offsets, targets, flags));
+    room[..2 * n + workers * (5 * n + 4)].fill(0);
     let mut run = Run { room, offsets, targets, flags, n, workers };
     loop {
         for p in 0..workers {
@@ -214,76 +157,4 @@ fn plain_run_to_end(room: &mut [u16], lasso: &mut [u16], offsets: &[u16], target
             }
         }
     }
-}
-
-// The lists: 4,096 states and 16,384 transitions, each to a later state, so that there is no loop.
-
-fn list(marks: &str) -> (Vec<u16>, Vec<u16>, Vec<u16>) {
-    let (n, e) = (4096usize, 16384usize);
-    let mut seed = 88172645463325252u64;
-    let mut random = move |k: usize| {
-        seed ^= seed << 13;
-        seed ^= seed >> 7;
-        seed ^= seed << 17;
-        (seed % k as u64) as usize
-    };
-    let mut next: Vec<Vec<u16>> = vec![vec![]; n];
-    for (s, row) in next.iter_mut().enumerate().take(n - 1) {
-        row.push(s as u16 + 1);
-    }
-    let mut left = e - (n - 1);
-    while left > 0 {
-        let s = random(n - 1);
-        let t = (s + 1 + random(n - 1 - s)) as u16;
-        if !next[s].contains(&t) {
-            next[s].push(t);
-            left -= 1;
-        }
-    }
-    let mut offsets = vec![0u16];
-    let mut targets = vec![];
-    for row in &mut next {
-        for i in (1..row.len()).rev() {
-            let j = random(i + 1);
-            row.swap(i, j);
-        }
-        targets.extend(row.iter());
-        offsets.push(targets.len() as u16);
-    }
-    let flags = (0..n).map(|_| match marks { "few" => u16::from(random(64) == 0), "half" => u16::from(random(2) == 0), _ => 1 }).collect();
-    (offsets, targets, flags)
-}
-
-fn main() {
-    let args: Vec<String> = env::args().collect();
-    let n = 4096;
-    let mut room = vec![7u16; 2 * n + 8 * (5 * n + 4)];
-    let mut lasso = vec![7u16; 2 * n];
-    if args[1] == "time" {
-        for marks in ["few", "half", "all"] {
-            let (offsets, targets, flags) = list(marks);
-            for workers in [1, 2, 8] {
-                let (mut ours, mut plain) = (vec![], vec![]);
-                for _ in 0..11 {
-                    let at = Instant::now();
-                    let ours_tally = our_run_to_end(&mut room, &mut lasso, &offsets, &targets, &flags, workers);
-                    ours.push(at.elapsed());
-                    let words = room.clone();
-                    let at = Instant::now();
-                    let plain_tally = plain_run_to_end(&mut room, &mut lasso, &offsets, &targets, &flags, workers);
-                    plain.push(at.elapsed());
-                    assert!(ours_tally == plain_tally && words == room && lasso.iter().all(|&w| w == 7));
-                }
-                ours.sort();
-                plain.sort();
-                let ratio = ours[5].as_secs_f64() / plain[5].as_secs_f64();
-                println!("run_to_end, {} marked, P = {}: {:?}, plain Rust {:?}, ratio of times {:.2}", marks, workers, ours[5], plain[5], ratio);
-            }
-        }
-        return;
-    }
-    let (offsets, targets, flags) = list(&args[2]);
-    let workers = args[3].parse().unwrap();
-    let run = if args[1] == "ours" { our_run_to_end } else { plain_run_to_end };
-    run(&mut room, &mut lasso, &offsets, &targets, &flags, workers);
 }
