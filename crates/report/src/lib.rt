@@ -7,6 +7,9 @@ use labels::put_states;
 use moves::Tally;
 use page::put;
 use page::put_numbers;
+use refusals::Refusal;
+use refusals::of_reading;
+use refusals::of_run;
 use statelist::Reading;
 use workers::put_workers;
 ghost use mathlib.Core.Path.{_≡_};
@@ -30,20 +33,18 @@ pub fn put_reading(page: &mut [u8], at: usize, reading: Reading) -> usize
     requires { ⌜ Holds (now page) at (readingLine (told·reading reading)) ⌝ }
     ensures { λ r. ⌜ written r (now (page .exit)) ≡ puts (now (page .entry)) at (readingLine (told·reading reading)) ⌝ }
 {
-    match reading {
-        Reading::Graph {
-            states: _,
-            transitions: _,
-        } => at,
-        Reading::TooLong => put_refusal(page, at, 1, 0),
-        Reading::NoForm { line } => put_refusal(page, at, 2, line as u64),
-        Reading::DeclaredTwice { line } => put_refusal(page, at, 3, line as u64),
-        Reading::NotDeclared { line } => put_refusal(page, at, 4, line as u64),
-        Reading::PairTwice { line } => put_refusal(page, at, 5, line as u64),
-        Reading::NoStateRoom { line } => put_refusal(page, at, 6, line as u64),
-        Reading::NoTransitionRoom { line } => put_refusal(page, at, 7, line as u64),
-        Reading::NoState => put_refusal(page, at, 8, 0),
+    let refusal = of_reading(reading);
+    if refusal.number == 0 {
+        return at;
     }
+    put_refused(page, at, refusal)
+}
+
+fn put_refused(page: &mut [u8], at: usize, refusal: Refusal) -> usize
+    requires { ⌜ Holds (now page) at (refusedLine (refusal .number) (refusal .line)) ⌝ }
+    ensures { λ r. ⌜ written r (now (page .exit)) ≡ puts (now (page .entry)) at (refusedLine (refusal .number) (refusal .line)) ⌝ }
+{
+    put_refusal(page, at, refusal.number as u64, refusal.line as u64)
 }
 
 // What a run came to: the answer with stem and loop, and the tally; or the refusal.
@@ -78,11 +79,7 @@ pub fn put_run(
         ),
         Outcome::None { used: _ } => put_answer(page, at, b"answer\tnone\n", tally),
         Outcome::Undecided { used: _ } => put_answer(page, at, b"answer\tundecided\n", tally),
-        Outcome::NoWorkers => put_refusal(page, at, 9, 0),
-        Outcome::NoGraph => put_refusal(page, at, 10, 0),
-        Outcome::RoomShort => put_refusal(page, at, 11, 0),
-        Outcome::LassoShort => put_refusal(page, at, 12, 0),
-        Outcome::NoSuchWorker => put_refusal(page, at, 13, 0),
+        _ => put_refused(page, at, of_run(outcome)),
     }
 }
 
@@ -152,11 +149,7 @@ pub fn put_end(
         } => put_used(page, at, text, places, room, n, p, used),
         Outcome::None { used } => put_used(page, at, text, places, room, n, p, used),
         Outcome::Undecided { used } => put_used(page, at, text, places, room, n, p, used),
-        Outcome::NoWorkers => at,
-        Outcome::NoGraph => at,
-        Outcome::RoomShort => at,
-        Outcome::LassoShort => at,
-        Outcome::NoSuchWorker => at,
+        _ => at,
     }
 }
 

@@ -1,6 +1,7 @@
--- `put_end` writes what `replay` adds to an answer, and nothing to a refusal: one arm for each outcome.
+-- `put_end` writes what `replay` adds to an answer, and nothing to a refusal: one arm for each answer, and one for the refusals.
 use borrow.Author.Needs.{needs}
 use Rattle.page.proofs.Written.{puts-none}
+use Rattle.report.proofs.Refused.{run-refused}
 use Rattle.report.proofs.put_end.Statement.{statement}
 use Rattle.report.proofs.put_end.Tie as tie
 
@@ -22,21 +23,6 @@ enum-known-outcome-3 c = search needs
 put-used-requires-3 : tie.Need-put-used-requires-3
 put-used-requires-3 c κs = rw (c .before .before .outcome3 .given .1) at (c .before .before .before .before .before .before .before .before .pre)
 
-enum-told : tie.Need-enum-told
-enum-told c = search needs
-
-enum-told-2 : tie.Need-enum-told-2
-enum-told-2 c = search needs
-
-enum-told-3 : tie.Need-enum-told-3
-enum-told-3 c = search needs
-
-enum-told-4 : tie.Need-enum-told-4
-enum-told-4 c = search needs
-
-enum-told-5 : tie.Need-enum-told-5
-enum-told-5 c = search needs
-
 same-length : tie.Need-same-length
 same-length c = search needs
 
@@ -56,19 +42,8 @@ returns-3 : tie.Need-returns-3
 returns-3 c = rw (c .before .before .before .before .before .outcome3 .given .1) (c .before .before .put-used3 .ensures)
 
 returns-4 : tie.Need-returns-4
-returns-4 c = rw (c .enum-told .given .1) (puts-none _ _)
-
-returns-5 : tie.Need-returns-5
-returns-5 c = rw (c .enum-told2 .given .1) (puts-none _ _)
-
-returns-6 : tie.Need-returns-6
-returns-6 c = rw (c .enum-told3 .given .1) (puts-none _ _)
-
-returns-7 : tie.Need-returns-7
-returns-7 c = rw (c .enum-told4 .given .1) (puts-none _ _)
-
-returns-8 : tie.Need-returns-8
-returns-8 c = rw (c .enum-told5 .given .1) (puts-none _ _)
+returns-4 c =
+    rw (run-refused (c .before .before .before .before .before .args .outcome) (c .match .keys4)) (puts-none _ _)
 
 pub put-end-spec : {M : Type 1} → statement M
 put-end-spec =
@@ -80,19 +55,10 @@ put-end-spec =
     put-used-requires-2
     enum-known-outcome-3
     put-used-requires-3
-    enum-told
-    enum-told-2
-    enum-told-3
-    enum-told-4
-    enum-told-5
     same-length
     returns
     same-length-2
     returns-2
     same-length-3
     returns-3
-    returns-4
-    returns-5
-    returns-6
-    returns-7
-    returns-8)
+    returns-4)

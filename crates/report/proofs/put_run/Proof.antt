@@ -1,4 +1,4 @@
--- `put_run` writes what a run came to: one arm for each outcome.
+-- `put_run` writes what a run came to: one arm for each answer, and one for the refusals.
 use Prim.Native.Nat.{ℕ, _+_, _-_, _≤_}
 use mathlib.Core.Path.{_≡_, sym}
 use lib.ListN.{length}
@@ -6,6 +6,7 @@ use lib.Seq.{length-take-le}
 use native.Mathlib.Omega.{arith}
 use borrow.Author.Needs.{needs}
 use Rattle.page.specs.Words.{bytes}
+use Rattle.report.proofs.Refused.{run-refused}
 use Rattle.report.proofs.put_run.Statement.{statement}
 use Rattle.report.proofs.put_run.Tie as tie
 
@@ -69,35 +70,13 @@ put-answer-requires-2 c κs =
     let is = c .before .before .enum-told2 .given .1 in
     rw is at (c .before .before .before .before .before .before .before .before .pre .1)
 
-enum-told-3 : tie.Need-enum-told-3
-enum-told-3 c = search needs
+of-run-requires : tie.Need-of-run-requires
+of-run-requires c κs = search needs
 
-put-refusal-requires : tie.Need-put-refusal-requires
-put-refusal-requires c κs = rw (c .before .enum-told3 .given .1) at (c .before .before .before .before .before .before .before .pre .1)
-
-enum-told-4 : tie.Need-enum-told-4
-enum-told-4 c = search needs
-
-put-refusal-requires-2 : tie.Need-put-refusal-requires-2
-put-refusal-requires-2 c κs = rw (c .before .enum-told4 .given .1) at (c .before .before .before .before .before .before .before .pre .1)
-
-enum-told-5 : tie.Need-enum-told-5
-enum-told-5 c = search needs
-
-put-refusal-requires-3 : tie.Need-put-refusal-requires-3
-put-refusal-requires-3 c κs = rw (c .before .enum-told5 .given .1) at (c .before .before .before .before .before .before .before .pre .1)
-
-enum-told-6 : tie.Need-enum-told-6
-enum-told-6 c = search needs
-
-put-refusal-requires-4 : tie.Need-put-refusal-requires-4
-put-refusal-requires-4 c κs = rw (c .before .enum-told6 .given .1) at (c .before .before .before .before .before .before .before .pre .1)
-
-enum-told-7 : tie.Need-enum-told-7
-enum-told-7 c = search needs
-
-put-refusal-requires-5 : tie.Need-put-refusal-requires-5
-put-refusal-requires-5 c κs = rw (c .before .enum-told7 .given .1) at (c .before .before .before .before .before .before .before .pre .1)
+put-refused-requires : tie.Need-put-refused-requires
+put-refused-requires c κs =
+    let start = c .before .before .before .before .before .before .before in
+    rw (c .of-run .ensures) (rw (run-refused (start .args .outcome) (c .before .before .match .keys4)) at (start .pre .1))
 
 same-length : tie.Need-same-length
 same-length c = search needs
@@ -123,31 +102,10 @@ same-length-4 : tie.Need-same-length-4
 same-length-4 c = search needs
 
 returns-4 : tie.Need-returns-4
-returns-4 c = rw (c .before .before .before .before .enum-told3 .given .1) (c .before .before .put-refusal .ensures)
-
-same-length-5 : tie.Need-same-length-5
-same-length-5 c = search needs
-
-returns-5 : tie.Need-returns-5
-returns-5 c = rw (c .before .before .before .before .enum-told4 .given .1) (c .before .before .put-refusal2 .ensures)
-
-same-length-6 : tie.Need-same-length-6
-same-length-6 c = search needs
-
-returns-6 : tie.Need-returns-6
-returns-6 c = rw (c .before .before .before .before .enum-told5 .given .1) (c .before .before .put-refusal3 .ensures)
-
-same-length-7 : tie.Need-same-length-7
-same-length-7 c = search needs
-
-returns-7 : tie.Need-returns-7
-returns-7 c = rw (c .before .before .before .before .enum-told6 .given .1) (c .before .before .put-refusal4 .ensures)
-
-same-length-8 : tie.Need-same-length-8
-same-length-8 c = search needs
-
-returns-8 : tie.Need-returns-8
-returns-8 c = rw (c .before .before .before .before .enum-told7 .given .1) (c .before .before .put-refusal5 .ensures)
+returns-4 c =
+    let start = c .before .before .before .before .before .before .before .before .before .before in
+    let call = c .before .before .before .of-run in
+    rw (run-refused (start .args .outcome) (c .before .before .before .before .before .match .keys4)) (rw (call .ensures) at (c .before .before .put-refused .ensures))
 
 pub put-run-spec : {M : Type 1} → statement M
 put-run-spec =
@@ -167,16 +125,8 @@ put-run-spec =
     enum-told-2
     slice-aggregate-put-answer-2
     put-answer-requires-2
-    enum-told-3
-    put-refusal-requires
-    enum-told-4
-    put-refusal-requires-2
-    enum-told-5
-    put-refusal-requires-3
-    enum-told-6
-    put-refusal-requires-4
-    enum-told-7
-    put-refusal-requires-5
+    of-run-requires
+    put-refused-requires
     same-length
     returns
     same-length-2
@@ -184,12 +134,4 @@ put-run-spec =
     same-length-3
     returns-3
     same-length-4
-    returns-4
-    same-length-5
-    returns-5
-    same-length-6
-    returns-6
-    same-length-7
-    returns-7
-    same-length-8
-    returns-8)
+    returns-4)
