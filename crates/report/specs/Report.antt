@@ -76,6 +76,13 @@ workerLines label own P = joined (λ q. workerLine label q (own q)) (upFrom 0 P)
 abbrev pub ownAt : List ℕ → ℕ → ℕ → Own
 ownAt room n q = ownIn room (stretchAt n q + 5 * n)
 
+-- the turns used; 0 if the run was refused
+abbrev pub usedOf : Told → ℕ
+usedOf (told-cycle stem loop used) = used
+usedOf (told-none used) = used
+usedOf (told-undecided used) = used
+usedOf (told-refusal number line) = 0
+
 -- what `replay` adds to an answer: the turns used, and P workers; nothing to a refusal
 unfoldable pub usedLines : (ℕ → List ℕ) → List ℕ → ℕ → ℕ → ℕ → List ℕ
 usedLines label room n P used = numbersLine (bytes "used") (used ∷ []) ++ workerLines label (ownAt room n) P

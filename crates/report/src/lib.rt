@@ -18,8 +18,8 @@ ghost use Rattle.ends.specs.Told.{told};
 ghost use Rattle.page.specs.Page.{Holds, written, puts};
 ghost use Rattle.statelist.specs.Lists.{told as told·reading};
 ghost use Rattle.statelist.specs.Labels.{labelAt};
-ghost use Rattle.report.specs.Report.{refusedLine, readingLine, tallyLine, cycleLines, runLines, usedLines, endLines};
-ghost use Rattle.report.specs.Shows.{Labels, Shows, ShowsWorkers, ShowsEnd};
+ghost use Rattle.report.specs.Report.{refusedLine, readingLine, tallyLine, cycleLines, runLines, usedOf, endLines};
+ghost use Rattle.report.specs.Shows.{Labels, Shows, ShowsEnd};
 
 pub fn put_refusal(page: &mut [u8], at: usize, number: u64, line: u64) -> usize
     requires { ⌜ Holds (now page) at (refusedLine number line) ⌝ }
@@ -141,34 +141,25 @@ pub fn put_end(
         ≡ puts (now (page .entry)) at
         (endLines (labelAt (now (text .entry)) (now (places .entry))) (now (room .entry)) n p (told outcome)) ⌝ }
 {
+    if of_run(outcome).number != 0 {
+        return at;
+    }
+    let end = put_numbers(page, at, b"used", &[used_of(outcome) as u64]);
+    put_workers(page, end, text, places, room, n, p)
+}
+
+// The turns used; 0 if the run was refused.
+fn used_of(outcome: Outcome) -> usize
+    ensures { λ r. ⌜ r ≡ usedOf (told outcome) ⌝ }
+{
     match outcome {
         Outcome::Cycle {
             stem: _,
             loop_: _,
             used,
-        } => put_used(page, at, text, places, room, n, p, used),
-        Outcome::None { used } => put_used(page, at, text, places, room, n, p, used),
-        Outcome::Undecided { used } => put_used(page, at, text, places, room, n, p, used),
-        _ => at,
+        } => used,
+        Outcome::None { used } => used,
+        Outcome::Undecided { used } => used,
+        _ => 0,
     }
-}
-
-fn put_used(
-    page: &mut [u8],
-    at: usize,
-    text: &[u8],
-    places: &[u32],
-    room: &[u16],
-    n: usize,
-    p: usize,
-    used: usize,
-) -> usize
-    requires { ⌜ ShowsWorkers (now text) (now places) (now room) n p
-        × Holds (now page) at (usedLines (labelAt (now text) (now places)) (now room) n p used) ⌝ }
-    ensures { λ r. ⌜ written r (now (page .exit))
-        ≡ puts (now (page .entry)) at
-        (usedLines (labelAt (now (text .entry)) (now (places .entry))) (now (room .entry)) n p used) ⌝ }
-{
-    let end = put_numbers(page, at, b"used", &[used as u64]);
-    put_workers(page, end, text, places, room, n, p)
 }

@@ -1,64 +1,105 @@
--- `put_end` writes what `replay` adds to an answer, and nothing to a refusal: one arm for each answer, and one for the refusals.
+-- `put_end` writes what `replay` adds to an answer, the turns used and a line for each worker, and nothing to a refusal.
+use Prim.Native.Nat.{ℕ}
+use mathlib.Core.Path.{_≡_}
+use mathlib.Core.List.{List, [], _∷_, _++_}
 use borrow.Author.Needs.{needs}
-use Rattle.page.proofs.Written.{puts-none}
-use Rattle.report.proofs.Refused.{run-refused}
+use Rattle.ends.specs.Told.{told}
+use Rattle.statelist.specs.Labels.{labelAt}
+use Rattle.refusals.proofs.Numbers.{run-refusal}
+use Rattle.page.specs.Words.{bytes}
+use Rattle.page.specs.Numbers.{numbersLine}
+use Rattle.page.specs.Page.{Holds}
+use Rattle.page.proofs.Written.{puts-none, holds-first, holds-rest, then}
+use Rattle.report.specs.Report.{ownAt, workerLines, usedOf, usedLines, endLines}
+use Rattle.report.specs.Shows.{ShowsWorkers}
+use Rattle.report.proofs.Refused.{answer-end}
 use Rattle.report.proofs.put_end.Statement.{statement}
 use Rattle.report.proofs.put_end.Tie as tie
 
-enum-known-outcome : tie.Need-enum-known-outcome
-enum-known-outcome c = search needs
+abbrev turns : tie.Start → List ℕ
+turns start = numbersLine (bytes "used") (usedOf (told (start .args .outcome)) ∷ [])
 
-put-used-requires : tie.Need-put-used-requires
-put-used-requires c κs = rw (c .before .before .outcome .given .1) at (c .before .before .before .before .before .before .before .before .pre)
+abbrev workers : tie.Start → List ℕ
+workers start =
+    workerLines (labelAt (start .args .text .now) (start .args .places .now)) (ownAt (start .args .room .now) (start .args .n)) (start .args .p)
 
-enum-known-outcome-2 : tie.Need-enum-known-outcome-2
-enum-known-outcome-2 c = search needs
+abbrev start-of : tie.Else1 → tie.Start
+start-of c = c .before .before .before .before .before .before .before
 
-put-used-requires-2 : tie.Need-put-used-requires-2
-put-used-requires-2 c κs = rw (c .before .before .outcome2 .given .1) at (c .before .before .before .before .before .before .before .before .pre)
+abbrev End : tie.Else1 → Type 0
+End c =
+    let args = start-of c .args in
+    let label = labelAt (args .text .now) (args .places .now) in
+    (endLines label (args .room .now) (args .n) (args .p) (told (args .outcome)) ≡ turns (start-of c) ++ workers (start-of c))
+    × ShowsWorkers (args .text .now) (args .places .now) (args .room .now) (args .n) (args .p)
+    × Holds (args .page .now) (args .at) (turns (start-of c) ++ workers (start-of c))
 
-enum-known-outcome-3 : tie.Need-enum-known-outcome-3
-enum-known-outcome-3 c = search needs
+-- what an answer's end is, and asks
+ended : (c : tie.Else1) → End c
+unfolding usedLines
+ended c =
+    let start = start-of c in
+    let args = start .args in
+    let is = rw (c .before .before .of-run .ensures) at (c .if1 .left) in
+    let end = answer-end (args .text .now) (args .places .now) (args .room .now) (args .n) (args .p) (args .outcome) is in
+    (end .0, end .1 (start .pre .0), rw (end .0) at (start .pre .1))
 
-put-used-requires-3 : tie.Need-put-used-requires-3
-put-used-requires-3 c κs = rw (c .before .before .outcome3 .given .1) at (c .before .before .before .before .before .before .before .before .pre)
+of-run-requires : tie.Need-of-run-requires
+of-run-requires c κs = search needs
+
+returns : tie.Need-returns
+returns c =
+    let start = c .before .before .before .before .before .before .before in
+    let some = rw (c .before .before .of-run .ensures) at (c .if1 .taken) in
+    rw (run-refusal (told (start .args .outcome)) some) (puts-none _ _)
+
+slice-aggregate-put-numbers : tie.Need-slice-aggregate-put-numbers
+slice-aggregate-put-numbers c = search needs
+
+used-of-requires : tie.Need-used-of-requires
+used-of-requires c κs = search needs
+
+slice-aggregate-put-numbers-2 : tie.Need-slice-aggregate-put-numbers-2
+slice-aggregate-put-numbers-2 c = search needs
+
+put-numbers-requires : tie.Need-put-numbers-requires
+unfolding bytes
+put-numbers-requires c κs =
+    let answer = c .before .before .before .before in
+    let start = start-of answer in
+    rw (c .before .used-of .ensures) (holds-first (turns start) (workers start) (ended answer .2))
+
+put-workers-requires : tie.Need-put-workers-requires
+unfolding bytes
+put-workers-requires c κs =
+    let answer = c .before .before .before .before .before .before .before .before in
+    let start = start-of answer in
+    let counted = rw (c .before .before .before .before .before .used-of .ensures) at (c .before .before .before .put-numbers .ensures) in
+    (ended answer .1, holds-rest (turns start) (workers start) (ended answer .2) counted)
 
 same-length : tie.Need-same-length
 same-length c = search needs
 
-returns : tie.Need-returns
-returns c = rw (c .before .before .before .before .before .outcome .given .1) (c .before .before .put-used .ensures)
-
-same-length-2 : tie.Need-same-length-2
-same-length-2 c = search needs
-
 returns-2 : tie.Need-returns-2
-returns-2 c = rw (c .before .before .before .before .before .outcome2 .given .1) (c .before .before .put-used2 .ensures)
-
-same-length-3 : tie.Need-same-length-3
-same-length-3 c = search needs
-
-returns-3 : tie.Need-returns-3
-returns-3 c = rw (c .before .before .before .before .before .outcome3 .given .1) (c .before .before .put-used3 .ensures)
-
-returns-4 : tie.Need-returns-4
-returns-4 c =
-    rw (run-refused (c .before .before .before .before .before .args .outcome) (c .match .keys4)) (puts-none _ _)
+unfolding bytes
+returns-2 c =
+    let answer = c .before .before .before .before .before .before .before .before .before .before .before in
+    let start = start-of answer in
+    let counted =
+    rw (c .before .before .before .before .before .before .before .before .used-of .ensures)
+    at (c .before .before .before .before .before .before .put-numbers .ensures) in
+    rw (ended answer .0) (then (turns start) (workers start) (ended answer .2) counted (c .before .before .put-workers .ensures))
 
 pub put-end-spec : {M : Type 1} → statement M
 put-end-spec =
     tie.close
     (tie.spec
-    enum-known-outcome
-    put-used-requires
-    enum-known-outcome-2
-    put-used-requires-2
-    enum-known-outcome-3
-    put-used-requires-3
-    same-length
+    of-run-requires
     returns
-    same-length-2
-    returns-2
-    same-length-3
-    returns-3
-    returns-4)
+    slice-aggregate-put-numbers
+    used-of-requires
+    slice-aggregate-put-numbers-2
+    put-numbers-requires
+    put-workers-requires
+    same-length
+    returns-2)
