@@ -104,8 +104,9 @@ same-length-4 c = search needs
 returns-4 : tie.Need-returns-4
 returns-4 c =
     let start = c .before .before .before .before .before .before .before .before .before .before in
-    let call = c .before .before .before .of-run in
-    rw (run-refused (start .args .outcome) (c .before .before .before .before .before .match .keys4)) (rw (call .ensures) at (c .before .before .put-refused .ensures))
+    let keys = c .before .before .before .before .before .match .keys4 in
+    let one = rw (c .before .before .before .of-run .ensures) at (c .before .before .put-refused .ensures) in
+    rw (run-refused (start .args .outcome) keys) one
 
 pub put-run-spec : {M : Type 1} → statement M
 put-run-spec =
