@@ -13,11 +13,11 @@ use Rattle.theory.specs.Turns.{mostMoves}
 use Rattle.limits.specs.Refusals.{refusalOf, usual}
 use Rattle.lines.specs.Bytes.{between, kindOf, inLabel}
 use Rattle.lines.specs.Line.{onto, cut, isLabel, isState, isTransition, flagOf}
-use Rattle.statelist.specs.Text.{isNil, declared, numberOf, transitionOf, stood, withState, withTransition}
-use Rattle.statelist.specs.Text.{stateLine as S-line, transitionLine, oneLine, atEnd, readLines, meaning}
-use Rattle.statelist.specs.Lists.{padded, placesOf, flagsOf, targetsFrom, targetsOf, offsetsOf, roomsOf}
-use Rattle.statelist.specs.Lists.{outcome as read-outcome}
-use Rattle.statelist.specs.Labels.{labelAt}
+use Rattle.text.specs.Text.{isNil, declared, numberOf, transitionOf, stood, withState, withTransition}
+use Rattle.text.specs.Text.{stateLine as S-line, transitionLine, oneLine, atEnd, readLines, meaning}
+use Rattle.text.specs.Lists.{padded, placesOf, flagsOf, targetsFrom, targetsOf, offsetsOf, roomsOf}
+use Rattle.text.specs.Lists.{outcome as read-outcome}
+use Rattle.text.specs.Labels.{labelAt}
 use Rattle.search.specs.Outcomes.{left, outcome, outcomeToEnd}
 use Rattle.page.specs.Words.{bytes, joined}
 use Rattle.page.specs.Numbers.{digits, decimal, field, numbersLine}

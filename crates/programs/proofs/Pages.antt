@@ -10,8 +10,8 @@ use Rattle.moves.specs.Tally.{zeroes}
 use Rattle.moves.specs.Room.{roomSize}
 use Rattle.ends.specs.declared.Outcome.{Outcome}
 use Rattle.ends.specs.Told.{told}
-use Rattle.statelist.specs.Lists.{zeros}
-use Rattle.statelist.specs.Labels.{labelAt}
+use Rattle.text.specs.Lists.{zeros}
+use Rattle.text.specs.Labels.{labelAt}
 use Rattle.search.specs.Outcomes.{lent, outcomeToEnd}
 use Rattle.search.proofs.Promises.{Call, run-call, end-call}
 use Rattle.page.specs.Page.{Page, written, Holds, puts}

@@ -7,10 +7,11 @@ use mathlib.Core.Logic.{_≢_}
 use lib.ListN.{length, take, length-take}
 use native.Mathlib.Omega.{arith}
 use Rattle.statelist.specs.declared.Reading.{Reading}
-use Rattle.statelist.specs.declared.Reading.the-variants.{Graph, TooLong, NoForm, DeclaredTwice, NotDeclared, PairTwice}
-use Rattle.statelist.specs.declared.Reading.the-variants.{NoStateRoom, NoTransitionRoom, NoState}
-use Rattle.statelist.specs.Lists.{Told, graph, refusal, told, outcome, comes}
+use Rattle.statelist.specs.declared.Reading.the-variants.{Graph}
+use Rattle.text.specs.Lists.{Told, graph, refusal, outcome}
+use Rattle.statelist.specs.Told.{told, comes}
 use Rattle.statelist.proofs.Promises.{read-graph, read-within}
+use Rattle.refusals.proofs.Numbers.{no-graph-refusal}
 use Rattle.report.specs.Report.{refusedLine, readingLine}
 use Rattle.programs.specs.Given.{Given}
 use Rattle.programs.specs.Skiffplank as skiffplank
@@ -41,15 +42,7 @@ reading-long (refusal number line) = refused-long number line
 -- the line of a reading that is no graph
 refusal-line : (r : Reading) → ((n e : ℕ) → r ≢ Graph n e) → (lines : Told → List ℕ)
     → ((number line : ℕ) → lines (refusal number line) ≡ refusedLine number line) → readingLine (told r) ≡ lines (told r)
-refusal-line (Graph n e) none lines h = absurd (none n e refl)
-refusal-line TooLong none lines h = sym (h 1 0)
-refusal-line (NoForm line) none lines h = sym (h 2 line)
-refusal-line (DeclaredTwice line) none lines h = sym (h 3 line)
-refusal-line (NotDeclared line) none lines h = sym (h 4 line)
-refusal-line (PairTwice line) none lines h = sym (h 5 line)
-refusal-line (NoStateRoom line) none lines h = sym (h 6 line)
-refusal-line (NoTransitionRoom line) none lines h = sym (h 7 line)
-refusal-line NoState none lines h = sym (h 8 0)
+refusal-line r none lines h = rw (no-graph-refusal r none) (sym (h _ _))
 
 -- the page of `skiffplank`
 module _ (text : List ℕ) (short : length text ≤ skiffplank.most-input) where

@@ -26,13 +26,13 @@ use Rattle.stretch.proofs.Owned.{own-seen}
 use Rattle.limits.specs.Refusals.{refusalOf}
 use Rattle.limits.proofs.Refused.{Fine, fine}
 use Rattle.ends.specs.Told.{tellsOf}
-use Rattle.statelist.specs.Text.{Seen, reads, refused, meaning}
-use Rattle.statelist.specs.Lists.{zeros, padded, placesOf, flagsOf, targetsOf, offsetsOf, roomsOf, filled}
-use Rattle.statelist.specs.Lists as reader
-use Rattle.statelist.specs.Labels.{labelAt}
-use Rattle.statelist.proofs.Good.{labelIn}
-use Rattle.statelist.proofs.Filled.{offsets-first, targets-first, flags-first, flags-long}
-use Rattle.statelist.proofs.Labels.{label-named}
+use Rattle.text.specs.Text.{Seen, reads, refused, meaning}
+use Rattle.text.specs.Lists.{zeros, padded, placesOf, flagsOf, targetsOf, offsetsOf, roomsOf, filled}
+use Rattle.text.specs.Lists as reader
+use Rattle.text.specs.Labels.{labelAt}
+use Rattle.text.proofs.Good.{labelIn}
+use Rattle.text.proofs.Filled.{offsets-first, targets-first, flags-first, flags-long}
+use Rattle.text.proofs.Labels.{label-named}
 use Rattle.search.specs.Outcomes.{Lent, left, unless, outcome, outcomeToEnd}
 use Rattle.search.proofs.Whole.{unless-0, unless-not}
 use Rattle.page.specs.Words.{bytes}

@@ -16,12 +16,12 @@ use Rattle.theory.proofs.Run.{run-stands, begin-stands}
 use Rattle.theory.proofs.Ends.{rounds-named}
 use Rattle.theory.proofs.Demands.{graph-of-words, end-decides}
 use Rattle.limits.specs.Refusals.{refusalOf, usual}
-use Rattle.statelist.specs.Text.{Seen, reads, refused, meaning}
-use Rattle.statelist.specs.Lists.{zeros, padded, placesOf, flagsOf, targetsOf, offsetsOf, roomsOf, filled, outcome}
-use Rattle.statelist.specs.Labels.{labelAt}
-use Rattle.statelist.proofs.Good.{labelIn}
-use Rattle.statelist.proofs.Filled.{states-fit, meaning-graph, offsets-first, targets-first, flags-first, flags-long}
-use Rattle.statelist.proofs.Labels.{label-named}
+use Rattle.text.specs.Text.{Seen, reads, refused, meaning}
+use Rattle.text.specs.Lists.{zeros, padded, placesOf, flagsOf, targetsOf, offsetsOf, roomsOf, filled, outcome}
+use Rattle.text.specs.Labels.{labelAt}
+use Rattle.text.proofs.Good.{labelIn}
+use Rattle.text.proofs.Filled.{states-fit, meaning-graph, offsets-first, targets-first, flags-first, flags-long}
+use Rattle.text.proofs.Labels.{label-named}
 use Rattle.search.specs.Outcomes.{left, outcomeToEnd}
 use Rattle.report.specs.Report.{refusedLine}
 use Rattle.programs.proofs.Answers.{answerLines, told-lines, run-same}

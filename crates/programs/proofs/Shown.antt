@@ -11,7 +11,7 @@ use Rattle.moves.specs.declared.Tally.{Tally}
 use Rattle.theory.specs.Invariant.{SeedAt}
 use Rattle.ends.specs.declared.Outcome.{Outcome}
 use Rattle.ends.specs.Told.{Told, told-cycle, told-none, told-undecided, told-refusal, told}
-use Rattle.statelist.specs.Labels.{labelAt}
+use Rattle.text.specs.Labels.{labelAt}
 use Rattle.search.proofs.Promises.{Call, refuses, cycle-shown, cycle-states, room-long, workers-few, worker-is, seed-states}
 use Rattle.report.specs.Report.{ownAt, endLines}
 use Rattle.report.specs.Shows.{Shows, Seeded, ShowsWorkers, ShowsEnd}

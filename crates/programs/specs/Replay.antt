@@ -6,8 +6,8 @@ use lib.ListN.{length, take}
 use Rattle.moves.specs.Tally.{zeroes}
 use Rattle.moves.specs.Room.{roomSize}
 use Rattle.limits.specs.Refusals.{usual}
-use Rattle.statelist.specs.Lists as reader
-use Rattle.statelist.specs.Labels.{labelAt}
+use Rattle.text.specs.Lists as reader
+use Rattle.text.specs.Labels.{labelAt}
 use Rattle.search.specs.Outcomes.{Lent, outcome, outcomeToEnd}
 use Rattle.report.specs.Report.{refusedLine, runLines, endLines}
 

@@ -6,8 +6,8 @@ use lib.Dec.{ltb}
 use lib.ListN.{length, take}
 use Rattle.moves.specs.Tally.{zeroes}
 use Rattle.moves.specs.Room.{roomSize}
-use Rattle.statelist.specs.Lists as reader
-use Rattle.statelist.specs.Labels.{labelAt}
+use Rattle.text.specs.Lists as reader
+use Rattle.text.specs.Labels.{labelAt}
 use Rattle.search.specs.Outcomes.{outcomeToEnd}
 use Rattle.report.specs.Report.{refusedLine, runLines}
 

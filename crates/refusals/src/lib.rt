@@ -3,7 +3,7 @@ use ends::Outcome;
 use statelist::Reading;
 ghost use mathlib.Core.Path.{_≡_};
 ghost use Rattle.ends.specs.Told.{told};
-ghost use Rattle.statelist.specs.Lists.{told as told·reading};
+ghost use Rattle.statelist.specs.Told.{told as told·reading};
 ghost use Rattle.refusals.specs.Refusals.{ofReading, ofRun};
 
 // 01's number of a refusal, and its line. Number 0 is no refusal.

@@ -6,7 +6,7 @@ use lib.ListN.{length, getD, take, drop}
 use lib.Seq.{drop-cons}
 use native.Mathlib.Omega.{arith}
 use Rattle.graphs.proofs.Member.{drop-mem}
-use Rattle.statelist.specs.Labels.{labelAt}
+use Rattle.text.specs.Labels.{labelAt}
 use Rattle.report.specs.Shows.{Labelled, Labels}
 
 module _ (text places : List ℕ) {s i : ℕ} (e : i ≡ s) where

@@ -10,7 +10,7 @@ use Rattle.moves.specs.Room.{stretchAt}
 use Rattle.stretch.specs.declared.Own.{Own}
 use Rattle.stretch.specs.Own.{ownIn}
 use Rattle.ends.specs.Told.{Told, told-cycle, told-none, told-undecided, told-refusal}
-use Rattle.statelist.specs.Lists as reader
+use Rattle.text.specs.Lists as reader
 use Rattle.page.specs.Words.{bytes, joined}
 use Rattle.page.specs.Numbers.{fields, numbersLine}
 

@@ -3,7 +3,7 @@ use page::put;
 use words::wide;
 ghost use mathlib.Core.Path.{_≡_};
 ghost use Rattle.page.specs.Page.{Holds, written, puts};
-ghost use Rattle.statelist.specs.Labels.{labelAt};
+ghost use Rattle.text.specs.Labels.{labelAt};
 ghost use Rattle.report.specs.Report.{stateLine, stateLines};
 ghost use Rattle.report.specs.Shows.{Labelled, Labels};
 

@@ -16,8 +16,8 @@ ghost use mathlib.Core.Path.{_≡_};
 ghost use mathlib.Core.List.{_++_};
 ghost use Rattle.ends.specs.Told.{told};
 ghost use Rattle.page.specs.Page.{Holds, written, puts};
-ghost use Rattle.statelist.specs.Lists.{told as told·reading};
-ghost use Rattle.statelist.specs.Labels.{labelAt};
+ghost use Rattle.statelist.specs.Told.{told as told·reading};
+ghost use Rattle.text.specs.Labels.{labelAt};
 ghost use Rattle.report.specs.Report.{refusedLine, readingLine, tallyLine, cycleLines, runLines, usedOf, endLines};
 ghost use Rattle.report.specs.Shows.{Labels, Shows, ShowsEnd};
 

@@ -7,7 +7,7 @@ use stretch::Own;
 use stretch::own_in;
 ghost use mathlib.Core.Path.{_≡_};
 ghost use Rattle.page.specs.Page.{Holds, written, puts};
-ghost use Rattle.statelist.specs.Labels.{labelAt};
+ghost use Rattle.text.specs.Labels.{labelAt};
 ghost use Rattle.report.specs.Report.{ownAt, placeField, labelField, seedField, workerLine, workerLines};
 ghost use Rattle.report.specs.Shows.{Labelled, Seeded, ShowsWorkers};
 

@@ -4,8 +4,9 @@ use mathlib.Core.Path.{_≡_, sym, ap}
 use mathlib.Core.List.{List}
 use native.Mathlib.Omega.{arith}
 use Rattle.statelist.specs.declared.Reading.{Reading}
-use Rattle.statelist.specs.Lists.{Told, graph, refusal, told, outcome, comes}
-use Rattle.statelist.proofs.Promises.{graph-low, refusal-low}
+use Rattle.text.specs.Lists.{Told, graph, refusal, outcome}
+use Rattle.statelist.specs.Told.{told, comes}
+use Rattle.text.proofs.Told.{graph-low, refusal-low}
 use Rattle.skiffplank_c.specs.Answers.{Fits}
 
 pub read-fits : (o t f p : ℕ) (text : List ℕ) (r : Reading) (offsets targets flags places : List ℕ)

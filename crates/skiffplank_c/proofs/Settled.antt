@@ -4,7 +4,7 @@ use mathlib.Core.List.{List}
 use Prim.Native.Nat.{ℕ}
 use Rattle.graphs.proofs.Settled.{settled}
 use Rattle.moves.specs.declared.Tally.{Tally}
-use Rattle.statelist.specs.Lists.{Outcome}
+use Rattle.text.specs.Lists.{Outcome}
 use Rattle.search.specs.Outcomes.{Lent}
 use Rattle.skiffplank_c.specs.declared.ReadAnswer.{ReadAnswer}
 use Rattle.skiffplank_c.specs.declared.RunAnswer.{RunAnswer}

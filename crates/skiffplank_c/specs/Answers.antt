@@ -2,7 +2,7 @@
 use Prim.Native.Nat.{ℕ, _<_}
 use mathlib.Core.List.{List}
 use Rattle.moves.specs.declared.Tally.{Tally}
-use Rattle.statelist.specs.Lists.{Told, graph, refusal, Outcome}
+use Rattle.text.specs.Lists.{Told, graph, refusal, Outcome}
 use Rattle.ends.specs.Told.{Told as Told·run, told-cycle, told-none, told-undecided, told-refusal}
 use Rattle.search.specs.Outcomes.{Lent}
 use Rattle.skiffplank_c.specs.declared.ReadAnswer.{ReadAnswer}

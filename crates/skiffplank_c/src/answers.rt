@@ -2,12 +2,14 @@
 use crate::ReadAnswer;
 use crate::RunAnswer;
 use ends::Outcome;
+use refusals::Refusal;
 use refusals::of_reading;
 use refusals::of_run;
 use statelist::Reading;
 ghost use mathlib.Core.Path.{_≡_};
 ghost use Prim.Native.Nat.{_<_};
-ghost use Rattle.statelist.specs.Lists.{refusal, told as told·reading};
+ghost use Rattle.text.specs.Lists as text;
+ghost use Rattle.statelist.specs.Told.{told as told·reading};
 ghost use Rattle.ends.specs.Told.{told-refusal, told-cycle, told};
 ghost use Rattle.skiffplank_c.specs.Answers.{readAnswer, runAnswer, Fits, RunFits};
 
@@ -20,15 +22,14 @@ pub fn read_answer(reading: Reading) -> ReadAnswer
         transitions,
     } = reading
     else {
-        let refusal = of_reading(reading);
-        return refused(refusal.number, refusal.line);
+        return refused(of_reading(reading));
     };
     graph(states, transitions)
 }
 
 fn graph(states: usize, transitions: usize) -> ReadAnswer
     requires { ⌜ (states < 4294967296) × (transitions < 4294967296) ⌝ }
-    ensures { λ r. ⌜ r ≡ readAnswer (Rattle.statelist.specs.Lists.graph states transitions) ⌝ }
+    ensures { λ r. ⌜ r ≡ readAnswer (text.graph states transitions) ⌝ }
 {
     ReadAnswer {
         refusal: 0,
@@ -38,13 +39,13 @@ fn graph(states: usize, transitions: usize) -> ReadAnswer
     }
 }
 
-fn refused(number: u32, line: usize) -> ReadAnswer
-    requires { ⌜ line < 4294967296 ⌝ }
-    ensures { λ r. ⌜ r ≡ readAnswer (refusal number line) ⌝ }
+fn refused(refusal: Refusal) -> ReadAnswer
+    requires { ⌜ refusal .line < 4294967296 ⌝ }
+    ensures { λ r. ⌜ r ≡ readAnswer (text.refusal (refusal .number) (refusal .line)) ⌝ }
 {
     ReadAnswer {
-        refusal: number,
-        line: narrow(line),
+        refusal: refusal.number,
+        line: narrow(refusal.line),
         states: 0,
         transitions: 0,
     }
@@ -54,17 +55,12 @@ pub fn run_answer(outcome: Outcome) -> RunAnswer
     requires { ⌜ RunFits (told outcome) ⌝ }
     ensures { λ r. ⌜ r ≡ runAnswer (told outcome) ⌝ }
 {
-    if let Outcome::Cycle { stem, loop_, used } = outcome {
-        return cycle(stem, loop_, used);
+    match outcome {
+        Outcome::Cycle { stem, loop_, used } => cycle(stem, loop_, used),
+        Outcome::None { used } => answered(2, used),
+        Outcome::Undecided { used } => answered(0, used),
+        _ => not_run(of_run(outcome)),
     }
-    if let Outcome::None { used } = outcome {
-        return answered(2, used);
-    }
-    if let Outcome::Undecided { used } = outcome {
-        return answered(0, used);
-    }
-    let refusal = of_run(outcome);
-    not_run(refusal.number)
 }
 
 fn cycle(stem: usize, ring: usize, used: usize) -> RunAnswer
@@ -92,11 +88,11 @@ fn answered(answer: u32, used: usize) -> RunAnswer
     }
 }
 
-fn not_run(number: u32) -> RunAnswer
-    ensures { λ r. ⌜ r ≡ runAnswer (told-refusal number 0) ⌝ }
+fn not_run(refusal: Refusal) -> RunAnswer
+    ensures { λ r. ⌜ r ≡ runAnswer (told-refusal (refusal .number) (refusal .line)) ⌝ }
 {
     RunAnswer {
-        refusal: number,
+        refusal: refusal.number,
         answer: 0,
         stem: 0,
         loop_: 0,

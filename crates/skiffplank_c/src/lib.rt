@@ -7,7 +7,7 @@ use answers::whole;
 use moves::Tally;
 ghost use mathlib.Core.Path.{_≡_};
 ghost use lib.ListN.{length};
-ghost use Rattle.statelist.specs.Lists.{outcome as read·outcome};
+ghost use Rattle.text.specs.Lists.{outcome as read·outcome};
 ghost use Rattle.search.specs.Outcomes.{outcome, outcomeToEnd};
 ghost use Rattle.skiffplank_c.specs.Answers.{readCallOf, readCall, runCallOf, runCall};
 

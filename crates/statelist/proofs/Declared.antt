@@ -4,7 +4,7 @@ use mathlib.Core.Path.{_≡_, refl, sym, ap, _∙_, subst}
 use mathlib.Core.Bool.{true, false}
 use mathlib.Core.List.{List, []}
 use lib.ListN.{length, getD, set, take, drop, length-drop}
-use lib.Seq.{drop-drop, getD-set-other}
+use lib.Seq.{drop-drop, getD-take, length-take-le, getD-set-other}
 use native.Mathlib.Omega.{arith}
 use Rattle.graphs.specs.Lists.{tab}
 use Rattle.graphs.proofs.Stamps.{zeroes-at}
@@ -21,8 +21,10 @@ use Rattle.lines.proofs.Pieces.{ended-inside}
 use Rattle.lines.proofs.Records.{state-label, state-place}
 use Rattle.statelist.specs.declared.Reading.{Reading}
 use Rattle.statelist.specs.declared.Reading.the-variants.{NoForm, DeclaredTwice, NoStateRoom}
-use Rattle.statelist.specs.Text.{State, declared, refused}
-use Rattle.statelist.specs.Lists.{told, refusal, zeros}
+use Rattle.text.specs.Text.{State, declared, refused}
+use Rattle.text.specs.Lists.{refusal, zeros, padded}
+use Rattle.text.proofs.Zeros.{padded-is}
+use Rattle.statelist.specs.Told.{told}
 use Rattle.statelist.specs.Loops.{statesIn, from-here, Blank, Refused, roomFor, Declared}
 use Rattle.statelist.proofs.Here.{StateHere, state-bad, state-twice, state-full, state-more}
 use Rattle.statelist.proofs.Index.{label-unknown, label-known, asked-not, index-none, states-more, index-more}
@@ -32,6 +34,12 @@ blank-zeros l n e i h = ap (λ m. getD m i 0) e ∙ zeroes-at (length l) i
 
 pub blank-set : (l : List ℕ) (n k v : ℕ) → Blank l n → n ≤ k → Blank (set l k v) (suc k)
 blank-set l n k v b h i low = getD-set-other l k i v 0 (λ e. omega arith) ∙ b i (omega arith)
+
+-- a list whose words from n on are 0 is its first n words, padded
+pub blank-padded : (l : List ℕ) (n : ℕ) → n ≤ length l → Blank l n → l ≡ padded (length l) (take n l)
+blank-padded l n h b =
+    let long = length-take-le n l h in
+    padded-is (take n l) l (omega arith) (λ v k. sym (getD-take n l v 0 (omega arith))) (λ v k. b v (omega arith))
 
 pub states-long : (text flags places : List ℕ) (n : ℕ) → length (statesIn text flags places n) ≡ n
 unfolding statesIn

@@ -11,19 +11,19 @@ use borrow.Author.Tests.{lt-ltb, le-ltb}
 use Rattle.graphs.specs.Lists.{tab}
 use Rattle.graphs.specs.Words.{most-states, most-transitions}
 use Rattle.graphs.proofs.Tab.{tab-more}
-use Rattle.statelist.proofs.Nil.{nil-none, nil-some}
+use Rattle.text.proofs.Nil.{nil-none, nil-some}
 use Rattle.statelist.specs.declared.Reading.{Reading}
 use Rattle.statelist.specs.declared.Reading.the-variants.{Graph, TooLong, NoState}
-use Rattle.statelist.specs.Text.{State, Transition, Rooms, Seen, Meaning, reads, refused, isNil, atEnd, most-text, meaning}
-use Rattle.statelist.specs.Lists.{zeros, padded, flagsOf, placesOf, targetsOf, offsetsOf, filled, roomsOf, outcome, comes}
-use Rattle.statelist.specs.Labels.{labelAt}
+use Rattle.text.specs.Text.{State, Transition, Rooms, Seen, Meaning, reads, refused, isNil, atEnd, most-text, meaning}
+use Rattle.text.specs.Lists.{zeros, padded, flagsOf, placesOf, targetsOf, offsetsOf, filled, roomsOf, outcome}
+use Rattle.statelist.specs.Told.{comes}
+use Rattle.text.specs.Labels.{labelAt}
 use Rattle.statelist.specs.Loops.{stateAt, statesIn, transitionsIn, from-here, Index, Refused, roomFor, Declared, Listed, Fills, Closed}
 use Rattle.statelist.specs.Loops.{Closes}
 use Rattle.statelist.specs.Build.{Buildable}
 use Rattle.statelist.proofs.Settled.{told-one}
 use Rattle.statelist.proofs.Here.{end-here}
-use Rattle.statelist.proofs.Declared.{states-long}
-use Rattle.statelist.proofs.Zeros.{blank-padded}
+use Rattle.statelist.proofs.Declared.{states-long, blank-padded}
 use Rattle.statelist.proofs.Counts.{transitions-long}
 
 flags-join : (a b : List State) → flagsOf (a ++ b) ≡ flagsOf a ++ flagsOf b

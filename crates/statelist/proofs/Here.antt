@@ -17,10 +17,10 @@ use Rattle.lines.specs.Line.{cut, pieces, field, isState, isTransition, flagOf}
 use Rattle.lines.specs.Found.{labelOf, firstLine, ended, pastLine, stateFound, transitionFound}
 use Rattle.lines.proofs.Pieces.{pieces-some, pieces-ended, pieces-rest}
 use Rattle.lines.proofs.Records.{letter-state, letter-transition}
-use Rattle.statelist.proofs.Nil.{nil-some}
-use Rattle.statelist.specs.Text as text
-use Rattle.statelist.specs.Text.{Rooms, Seen, Meaning, reads, refused, isNil, declared, transitionOf, stood, withState, withTransition}
-use Rattle.statelist.specs.Text.{stateLine, transitionLine, oneLine, thenOn, atEnd, readLines}
+use Rattle.text.proofs.Nil.{nil-some}
+use Rattle.text.specs.Text as text
+use Rattle.text.specs.Text.{Rooms, Seen, Meaning, reads, refused, isNil, declared, transitionOf, stood, withState, withTransition}
+use Rattle.text.specs.Text.{stateLine, transitionLine, oneLine, thenOn, atEnd, readLines}
 use Rattle.statelist.specs.Loops.{from-here}
 
 -- a byte that is not 0 stands inside the text

@@ -21,8 +21,8 @@ use Rattle.pairs.specs.Pairs.{isPair, found, bucketOf, Chain}
 use Rattle.pairs.proofs.Last.{found-nothing, found-at, any-found-nothing, any-found-at}
 use Rattle.pairs.proofs.Chain.{chain-more}
 use Rattle.lines.proofs.Words.{words-differ}
-use Rattle.statelist.specs.Text.{State, declared, numberOf}
-use Rattle.statelist.specs.Labels.{labelAt}
+use Rattle.text.specs.Text.{State, declared, numberOf}
+use Rattle.text.specs.Labels.{labelAt}
 use Rattle.statelist.specs.Loops.{stateAt, statesIn, Index}
 
 -- the number of a state among n: the first one with the label

@@ -1,12 +1,4 @@
--- The cases of 01; laws of what a text means and of the four lists; then of the loops that read it and build them.
-pub mod Cases
-pub mod Nil
-pub mod Zeros
-pub mod Targets
-pub mod Good
-pub mod Meaning
-pub mod Filled
-pub mod Labels
+-- That the contract of `read` settles the call, and what it promises; then laws of the loops that read a text and build the lists.
 pub mod Settled
 pub mod Promises
 pub mod Here

@@ -8,7 +8,8 @@ use Rattle.graphs.proofs.Settled.{settled}
 use Rattle.statelist.specs.declared.Reading.{Reading}
 use Rattle.statelist.specs.declared.Reading.the-variants.{Graph, TooLong, NoForm, DeclaredTwice, NotDeclared, PairTwice}
 use Rattle.statelist.specs.declared.Reading.the-variants.{NoStateRoom, NoTransitionRoom, NoState}
-use Rattle.statelist.specs.Lists.{Told, graph, refusal, told, outcome, comes}
+use Rattle.text.specs.Lists.{Told, graph, refusal, outcome}
+use Rattle.statelist.specs.Told.{told, comes}
 
 -- the reading that tells it
 abbrev readingOf : Told → Reading

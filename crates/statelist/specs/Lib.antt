@@ -1,7 +1,4 @@
--- State-list text, in the order of reading: what a text means, the four lists and the answer that a reading gives, and the labels in them. `Loops`
--- is for the private functions.
-pub mod Text
-pub mod Lists
-pub mod Labels
+-- The reader's answer in the words of `text`; then `Loops` and `Build`, which are for the private functions.
+pub mod Told
 pub mod Loops
 pub mod Build

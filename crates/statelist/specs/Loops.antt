@@ -14,9 +14,10 @@ use Rattle.lines.specs.declared.StateLine.{StateLine}
 use Rattle.lines.specs.declared.TransitionLine.{TransitionLine}
 use Rattle.pairs.specs.declared.Found.the-variants.{At, Nothing}
 use Rattle.pairs.specs.Pairs.{isPair, found, Chain}
-use Rattle.statelist.specs.Text.{State, Transition, Rooms, Meaning, reads, refused, readLines}
-use Rattle.statelist.specs.Lists.{refusal, told, padded, targetsFrom, targetsOf, offsetsOf, filled, comes}
-use Rattle.statelist.specs.Labels.{labelAt}
+use Rattle.text.specs.Text.{State, Transition, Rooms, Meaning, reads, refused, readLines}
+use Rattle.text.specs.Lists.{refusal, padded, targetsFrom, targetsOf, offsetsOf, filled}
+use Rattle.statelist.specs.Told.{told, comes}
+use Rattle.text.specs.Labels.{labelAt}
 use Rattle.statelist.specs.declared.Reading.{Reading}
 use Rattle.statelist.specs.declared.Reading.the-variants.{Graph, NoState}
 use Rattle.statelist.specs.declared.went.Went.{Went}

@@ -10,7 +10,8 @@ use fill::fill_all;
 use rooms::clear_all;
 ghost use mathlib.Core.Path.{_≡_};
 ghost use lib.ListN.{length};
-ghost use Rattle.statelist.specs.Lists.{outcome, comes};
+ghost use Rattle.text.specs.Lists.{outcome};
+ghost use Rattle.statelist.specs.Told.{comes};
 
 // The most bytes that a text has.
 pub const MOST_TEXT: usize = 1048576;

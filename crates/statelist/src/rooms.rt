@@ -3,7 +3,7 @@ use words::clear;
 ghost use mathlib.Core.Path.{_≡_};
 ghost use lib.ListN.{length};
 ghost use Prim.Native.Nat.{min, _-_, _/_};
-ghost use Rattle.statelist.specs.Lists.{statesHeld, transitionsHeld, zeros};
+ghost use Rattle.text.specs.Lists.{statesHeld, transitionsHeld, zeros};
 
 fn least(a: usize, b: usize) -> usize
     ensures { λ r. ⌜ r ≡ min a b ⌝ }

@@ -14,7 +14,7 @@ ghost use lib.ListN.{length, getD, set};
 ghost use Rattle.graphs.specs.Words.{most-states};
 ghost use Rattle.lines.specs.Bytes.{kindTable};
 ghost use Rattle.pairs.specs.Pairs.{buckets, bucketOf, Chain};
-ghost use Rattle.statelist.specs.Text.{most-text};
+ghost use Rattle.text.specs.Text.{most-text};
 ghost use Rattle.statelist.specs.Loops.{Declared, StateNext, StatesRead};
 
 // What an S line gives: a state, or the refusal of the line.

@@ -4,7 +4,7 @@ use mathlib.Core.Path.{_≡_}
 use mathlib.Core.List.{List, [], _∷_, _++_}
 use borrow.Author.Needs.{needs}
 use Rattle.ends.specs.Told.{told}
-use Rattle.statelist.specs.Labels.{labelAt}
+use Rattle.text.specs.Labels.{labelAt}
 use Rattle.refusals.proofs.Numbers.{run-refusal}
 use Rattle.page.specs.Words.{bytes}
 use Rattle.page.specs.Numbers.{numbersLine}
@@ -12,7 +12,7 @@ use Rattle.page.specs.Page.{Holds}
 use Rattle.page.proofs.Written.{puts-none, holds-first, holds-rest, then}
 use Rattle.report.specs.Report.{ownAt, workerLines, usedOf, usedLines, endLines}
 use Rattle.report.specs.Shows.{ShowsWorkers}
-use Rattle.report.proofs.Refused.{answer-end}
+use Rattle.report.proofs.Answered.{answer-end}
 use Rattle.report.proofs.put_end.Statement.{statement}
 use Rattle.report.proofs.put_end.Tie as tie
 

@@ -1,7 +1,6 @@
 -- `put_reading` writes the refusal that a reading came to.
-use mathlib.Core.Path.{_≡_, sym, ap, _∙_}
 use borrow.Author.Needs.{needs}
-use Rattle.statelist.specs.Lists.{told}
+use Rattle.statelist.specs.Told.{told}
 use Rattle.refusals.proofs.Numbers.{reading-graph, reading-refusal}
 use Rattle.page.proofs.Written.{puts-none}
 use Rattle.report.proofs.put_reading.Statement.{statement}

@@ -6,7 +6,7 @@ use lib.Seq.{length-take-le}
 use native.Mathlib.Omega.{arith}
 use borrow.Author.Needs.{needs}
 use Rattle.page.specs.Words.{bytes}
-use Rattle.report.proofs.Refused.{run-refused}
+use Rattle.refusals.proofs.Numbers.{no-answer-refusal}
 use Rattle.report.proofs.put_run.Statement.{statement}
 use Rattle.report.proofs.put_run.Tie as tie
 
@@ -76,7 +76,7 @@ of-run-requires c κs = search needs
 put-refused-requires : tie.Need-put-refused-requires
 put-refused-requires c κs =
     let start = c .before .before .before .before .before .before .before in
-    rw (c .of-run .ensures) (rw (run-refused (start .args .outcome) (c .before .before .match .keys4)) at (start .pre .1))
+    rw (c .of-run .ensures) (rw (no-answer-refusal (start .args .outcome) (c .before .before .match .keys4)) at (start .pre .1))
 
 same-length : tie.Need-same-length
 same-length c = search needs
@@ -106,7 +106,7 @@ returns-4 c =
     let start = c .before .before .before .before .before .before .before .before .before .before in
     let keys = c .before .before .before .before .before .match .keys4 in
     let one = rw (c .before .before .before .of-run .ensures) at (c .before .before .put-refused .ensures) in
-    rw (run-refused (start .args .outcome) keys) one
+    rw (no-answer-refusal (start .args .outcome) keys) one
 
 pub put-run-spec : {M : Type 1} → statement M
 put-run-spec =

@@ -1,6 +1,6 @@
 -- `used_of` meets its contract.
 use borrow.Author.Needs.{needs}
-use Rattle.report.proofs.Refused.{run-refused}
+use Rattle.refusals.proofs.Numbers.{no-answer-refusal}
 use Rattle.report.proofs.used_of.Statement.{statement}
 use Rattle.report.proofs.used_of.Tie as tie
 
@@ -23,7 +23,7 @@ returns-3 : tie.Need-returns-3
 returns-3 c = search needs
 
 returns-4 : tie.Need-returns-4
-returns-4 c = rw (run-refused (c .before .args .outcome) (c .match .keys4))
+returns-4 c = rw (no-answer-refusal (c .before .args .outcome) (c .match .keys4))
 
 pub used-of-spec : {M : Type 1} → statement M
 used-of-spec =

@@ -5,7 +5,7 @@ use mathlib.Core.Logic.{_≢_}
 use mathlib.Core.Path.{sym, ap, _∙_}
 use types.Run
 use borrow.Author.Needs.{needs}
-use Rattle.statelist.specs.Lists.{zeros}
+use Rattle.text.specs.Lists.{zeros}
 use Rattle.statelist.specs.declared.Reading.the-variants.{Graph}
 use Rattle.statelist.proofs.Ends.{comes-long, comes-graph, comes-refused}
 use Rattle.statelist.proofs.read.Statement.{statement}

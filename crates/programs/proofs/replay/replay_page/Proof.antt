@@ -8,7 +8,7 @@ use lib.ListN.{length}
 use lib.Seq.{length-take-le}
 use native.Mathlib.Omega.{arith}
 use Rattle.statelist.specs.declared.Reading.the-variants.{Graph}
-use Rattle.statelist.specs.Lists.{told, comes}
+use Rattle.statelist.specs.Told.{told, comes}
 use Rattle.statelist.proofs.Promises.{read-fits}
 use Rattle.page.specs.Page.{puts}
 use Rattle.programs.specs.Replay.{reading}

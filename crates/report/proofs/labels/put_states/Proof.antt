@@ -5,7 +5,7 @@ use mathlib.Core.List.{List}
 use lib.ListN.{length, take}
 use native.Mathlib.Omega.{arith}
 use borrow.Author.Needs.{needs}
-use Rattle.statelist.specs.Labels.{labelAt}
+use Rattle.text.specs.Labels.{labelAt}
 use Rattle.page.specs.Words.{joined}
 use Rattle.page.specs.Page.{written, puts}
 use Rattle.page.proofs.Pieces.{pieces-none, pieces-all, piece-holds, piece-more}

@@ -2,7 +2,7 @@
 use Prim.Native.Nat.{ℕ}
 use mathlib.Core.List.{List, [], _∷_, _++_}
 use borrow.Author.Needs.{needs}
-use Rattle.statelist.specs.Labels.{labelAt}
+use Rattle.text.specs.Labels.{labelAt}
 use Rattle.page.specs.Words.{bytes}
 use Rattle.page.specs.Numbers.{fields}
 use Rattle.page.specs.Page.{Holds}

@@ -8,7 +8,7 @@ use borrow.Author.Needs.{needs}
 use Rattle.moves.specs.Run.{upFrom}
 use Rattle.moves.specs.Room.{stretch, stretchAt}
 use Rattle.moves.proofs.Stretch.{stretch-inside}
-use Rattle.statelist.specs.Labels.{labelAt}
+use Rattle.text.specs.Labels.{labelAt}
 use Rattle.page.specs.Words.{joined}
 use Rattle.page.specs.Page.{written, puts}
 use Rattle.page.proofs.Pieces.{pieces-none}

@@ -7,7 +7,8 @@ use native.Mathlib.Omega.{arith}
 use borrow.Author.Needs.{needs}
 use types.Run
 use Rattle.statelist.specs.declared.Reading.the-variants.{Graph}
-use Rattle.statelist.specs.Lists.{graph, refusal, told}
+use Rattle.text.specs.Lists.{graph, refusal}
+use Rattle.statelist.specs.Told.{told}
 use Rattle.refusals.proofs.Numbers.{no-graph-refusal}
 use Rattle.skiffplank_c.specs.Answers.{Fits}
 use Rattle.skiffplank_c.proofs.answers.read_answer.Statement.{statement}

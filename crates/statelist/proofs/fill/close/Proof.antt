@@ -3,7 +3,7 @@ use mathlib.Core.Logic.{inl, inr}
 use mathlib.Core.Path.{refl}
 use native.Mathlib.Omega.{arith}
 use borrow.Author.Needs.{needs}
-use Rattle.statelist.proofs.Zeros.{padded-whole}
+use Rattle.text.proofs.Zeros.{padded-whole}
 use Rattle.statelist.proofs.fill.close.Statement.{statement}
 use Rattle.statelist.proofs.fill.close.Tie as tie
 

@@ -2,7 +2,7 @@
 use mathlib.Core.Path.{refl}
 use native.Mathlib.Omega.{arith}
 use borrow.Author.Needs.{needs}
-use Rattle.statelist.specs.Lists.{roomsOf}
+use Rattle.text.specs.Lists.{roomsOf}
 use Rattle.statelist.proofs.Declared.{declared-none}
 use Rattle.statelist.proofs.Ends.{refused-fills}
 use Rattle.statelist.proofs.fill.fill_all.Statement.{statement}

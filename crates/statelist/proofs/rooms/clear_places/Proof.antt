@@ -4,7 +4,7 @@ use mathlib.Core.Path.{_≡_, sym}
 use native.Mathlib.Omega.{arith}
 use lib.ListN.{length, take, length-set}
 use borrow.Author.Needs.{needs}
-use Rattle.statelist.specs.Lists.{zeros}
+use Rattle.text.specs.Lists.{zeros}
 use Rattle.words.proofs.Zeros.{cleared-more, cleared-all}
 use Rattle.statelist.proofs.rooms.clear_places.Statement.{statement}
 use Rattle.statelist.proofs.rooms.clear_places.Tie as tie

@@ -12,12 +12,12 @@ use borrow.Author.Tests.{lt-ltb}
 use Rattle.graphs.proofs.Tests.{cond-ind}
 use Rattle.lines.specs.Line.{pieces, field, isState}
 use Rattle.lines.specs.Found.{firstLine, ended}
-use Rattle.statelist.specs.Text.{Rooms, Seen, Meaning, reads, refused, isNil, oneLine, thenOn, atEnd, readLines, nothing, most-text}
-use Rattle.statelist.specs.Text.{meaning}
+use Rattle.text.specs.Text.{Rooms, Seen, Meaning, reads, refused, isNil, oneLine, thenOn, atEnd, readLines, nothing, most-text}
+use Rattle.text.specs.Text.{meaning}
 use Rattle.lines.proofs.Pieces.{pieces-ended}
 use Rattle.lines.proofs.Records.{state-place}
-use Rattle.statelist.proofs.Nil.{not-nil}
-use Rattle.statelist.proofs.Good.{Good, Either, After, nothing-good, line-good}
+use Rattle.text.proofs.Nil.{not-nil}
+use Rattle.text.proofs.Good.{Good, Either, After, nothing-good, line-good}
 
 then-either : (rooms : Rooms) (Q R : Seen → Type 0) (m : Meaning) (more : Seen → Meaning) → Either rooms Q m
     → ((s : Seen) → Q s → Either rooms R (more s)) → Either rooms R (thenOn m more)

@@ -11,12 +11,12 @@ use Rattle.graphs.proofs.Tests.{same?, below?, and-cases}
 use Rattle.graphs.proofs.Same.{same-eq, all-at}
 use Rattle.lines.specs.Bytes.{between}
 use Rattle.lines.specs.Line.{isLabel}
-use Rattle.statelist.specs.Text.{State, Seen, reads, meaning}
-use Rattle.statelist.specs.Lists.{zeros, padded, placesOf, roomsOf}
-use Rattle.statelist.specs.Labels.{labelAt}
-use Rattle.statelist.proofs.Good.{absent, labelIn, stands, Good}
-use Rattle.statelist.proofs.Filled.{places-long}
-use Rattle.statelist.proofs.Meaning.{meaning-good}
+use Rattle.text.specs.Text.{State, Seen, reads, meaning}
+use Rattle.text.specs.Lists.{zeros, padded, placesOf, roomsOf}
+use Rattle.text.specs.Labels.{labelAt}
+use Rattle.text.proofs.Good.{absent, labelIn, stands, Good}
+use Rattle.text.proofs.Filled.{places-long}
+use Rattle.text.proofs.Meaning.{meaning-good}
 
 -- the two words of a state, whatever follows the places
 start-at : (states : List State) (after : List ℕ) (i : ℕ) → i < length states

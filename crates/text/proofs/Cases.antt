@@ -6,10 +6,10 @@ use mathlib.Core.List.{List, [], _∷_, _++_}
 use Rattle.graphs.specs.Lists.{tab, any, all, same}
 use Rattle.lines.specs.Bytes.{between, kindOf, inLabel}
 use Rattle.lines.specs.Line.{onto, cut, isLabel, isState, isTransition, flagOf, accepting, plain}
-use Rattle.statelist.specs.Text.{isNil, declared, numberOf, transitionOf, stood, withState, withTransition}
-use Rattle.statelist.specs.Text.{stateLine, transitionLine, oneLine, atEnd, readLines, meaning}
-use Rattle.statelist.specs.Lists.{zeros, padded, placesOf, flagsOf, targetsFrom, targetsOf, offsetsOf, roomsOf}
-use Rattle.statelist.specs.Lists.{graph, refusal, Outcome, outcome}
+use Rattle.text.specs.Text.{isNil, declared, numberOf, transitionOf, stood, withState, withTransition}
+use Rattle.text.specs.Text.{stateLine, transitionLine, oneLine, atEnd, readLines, meaning}
+use Rattle.text.specs.Lists.{zeros, padded, placesOf, flagsOf, targetsFrom, targetsOf, offsetsOf, roomsOf}
+use Rattle.text.specs.Lists.{graph, refusal, Outcome, outcome}
 
 -- lines, without and with their line feed, and labels
 abbrev state : List ℕ → List ℕ → List ℕ

@@ -12,12 +12,12 @@ use borrow.Author.Tests.{ltb-true}
 use Rattle.graphs.specs.Words.{most-states, most-transitions, isGraph}
 use Rattle.graphs.proofs.Same.{all-at}
 use Rattle.graphs.proofs.Words.{IsGraph, are-words}
-use Rattle.statelist.specs.Text.{State, Transition, Seen, reads, meaning}
-use Rattle.statelist.specs.Lists.{padded, placesOf, flagsOf, targetsOf, offsetsOf, roomsOf}
-use Rattle.statelist.proofs.Zeros.{padded-take, padded-long}
-use Rattle.statelist.proofs.Targets.{targets-total, targets-mono, targets-below, offset-at, offsets-long, successors-are}
-use Rattle.statelist.proofs.Good.{absent, Good}
-use Rattle.statelist.proofs.Meaning.{meaning-good}
+use Rattle.text.specs.Text.{State, Transition, Seen, reads, meaning}
+use Rattle.text.specs.Lists.{padded, placesOf, flagsOf, targetsOf, offsetsOf, roomsOf}
+use Rattle.text.proofs.Zeros.{padded-take, padded-long}
+use Rattle.text.proofs.Targets.{targets-total, targets-mono, targets-below, offset-at, offsets-long, successors-are}
+use Rattle.text.proofs.Good.{absent, Good}
+use Rattle.text.proofs.Meaning.{meaning-good}
 
 pub flags-long : (states : List State) → length (flagsOf states) ≡ length states
 unfolding flagsOf

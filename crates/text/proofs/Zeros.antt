@@ -4,12 +4,11 @@ use mathlib.Core.Path.{_≡_, sym, ap, _∙_}
 use mathlib.Core.List.{List, _++_}
 use mathlib.Core.Logic.{_⊎_, inl, inr}
 use lib.ListN.{length, getD, take, length-append, length-replicate, List·getD-append}
-use lib.Seq.{take-at, getD-append-add, getD-take, length-take-le, ext-getD}
+use lib.Seq.{take-at, getD-append-add, ext-getD}
 use native.Mathlib.Omega.{arith}
 use Rattle.graphs.proofs.Stamps.{zeroes-at}
 use Rattle.graphs.proofs.Tests.{below?}
-use Rattle.statelist.specs.Lists.{zeros, padded}
-use Rattle.statelist.specs.Loops.{Blank}
+use Rattle.text.specs.Lists.{zeros, padded}
 
 pub padded-take : (k n : ℕ) (l : List ℕ) → length l ≡ n → take n (padded k l) ≡ l
 unfolding padded
@@ -36,9 +35,3 @@ padded-is l m h front behind =
         let at : v ≡ length l + (v - length l) = omega arith in
         behind v k
         ∙ sym (ap (λ i. getD (l ++ rest) i 0) at ∙ getD-append-add l rest (v - length l) 0 ∙ zeroes-at (length m - length l) (v - length l))
-
--- a list whose words from n on are 0 is its first n words, padded
-pub blank-padded : (l : List ℕ) (n : ℕ) → n ≤ length l → Blank l n → l ≡ padded (length l) (take n l)
-blank-padded l n h b =
-    let long = length-take-le n l h in
-    padded-is (take n l) l (omega arith) (λ v k. sym (getD-take n l v 0 (omega arith))) (λ v k. b v (omega arith))

@@ -16,11 +16,11 @@ use Rattle.graphs.proofs.Same.{eq-same, any-not-at, all-join}
 use Rattle.graphs.proofs.Once.{once-join}
 use Rattle.lines.specs.Line.{field, isLabel, isState, isTransition, flagOf}
 use Rattle.lines.proofs.Records.{flag-low, state-label}
-use Rattle.statelist.proofs.Nil.{is-nil}
-use Rattle.statelist.specs.Text.{State, Transition, Rooms, Seen, Meaning, reads, refused, isNil, declared, numberOf, transitionOf, stood}
-use Rattle.statelist.specs.Text.{withState, withTransition, stateLine, transitionLine, oneLine, nothing}
-use Rattle.statelist.specs.Lists.{targetsFrom}
-use Rattle.statelist.proofs.Targets.{target-stood, targets-more}
+use Rattle.text.proofs.Nil.{is-nil}
+use Rattle.text.specs.Text.{State, Transition, Rooms, Seen, Meaning, reads, refused, isNil, declared, numberOf, transitionOf, stood}
+use Rattle.text.specs.Text.{withState, withTransition, stateLine, transitionLine, oneLine, nothing}
+use Rattle.text.specs.Lists.{targetsFrom}
+use Rattle.text.proofs.Targets.{target-stood, targets-more}
 
 -- what a list of states gives beyond its end
 abbrev pub absent : State

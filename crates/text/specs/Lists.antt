@@ -7,10 +7,7 @@ use lib.Dec.{eqb}
 use lib.ListN.{length, replicate}
 use Rattle.graphs.specs.Lists.{tab}
 use Rattle.graphs.specs.Words.{most-states, most-transitions}
-use Rattle.statelist.specs.Text.{State, Transition, Rooms, Meaning, reads, refused, meaning}
-use Rattle.statelist.specs.declared.Reading.{Reading}
-use Rattle.statelist.specs.declared.Reading.the-variants.{Graph, TooLong, NoForm, DeclaredTwice, NotDeclared, PairTwice}
-use Rattle.statelist.specs.declared.Reading.the-variants.{NoStateRoom, NoTransitionRoom, NoState}
+use Rattle.text.specs.Text.{State, Transition, Rooms, Meaning, reads, refused, meaning}
 
 abbrev pub zeros : ℕ → List ℕ
 zeros k = replicate k 0
@@ -58,17 +55,6 @@ pub data Told : Type 0 where
   graph : (states transitions : ℕ) → Told
   refusal : (number line : ℕ) → Told
 
-abbrev pub told : Reading → Told
-told (Graph states transitions) = graph states transitions
-told TooLong = refusal 1 0
-told (NoForm line) = refusal 2 line
-told (DeclaredTwice line) = refusal 3 line
-told (NotDeclared line) = refusal 4 line
-told (PairTwice line) = refusal 5 line
-told (NoStateRoom line) = refusal 6 line
-told (NoTransitionRoom line) = refusal 7 line
-told NoState = refusal 8 0
-
 -- what comes of a call: what is told, and the four lists
 pub record Outcome : Type 0 where
   pub tells : Told
@@ -76,10 +62,6 @@ pub record Outcome : Type 0 where
   pub targets : List ℕ
   pub flags : List ℕ
   pub places : List ℕ
-
--- what comes of a call that returns r and leaves these lists
-abbrev pub comes : Reading → (offsets targets flags places : List ℕ) → Outcome
-comes r offsets targets flags places = record { tells = told r; offsets = offsets; targets = targets; flags = flags; places = places }
 
 -- 01: "A refused reading sets all lent words to 0."
 abbrev pub filled : (offsets targets flags places : ℕ) → Meaning → Outcome

@@ -6,7 +6,7 @@ use mathlib.Core.List.{List, [], _∷_}
 use lib.ListN.{length}
 use native.Mathlib.Omega.{arith}
 use Rattle.graphs.proofs.Tests.{clash}
-use Rattle.statelist.specs.Text.{isNil}
+use Rattle.text.specs.Text.{isNil}
 
 module _ {ℓ} {A : Type ℓ} where
   pub nil-none : (l : List A) → length l ≡ 0 → isNil l ≡ true
