@@ -1,4 +1,4 @@
-// The run to the end in plain Rust with the same rules and layout as ours: it works on the words of the room, and goes over N words to test and to paint R.
+// The run to the end in plain Rust with the same rules and layout as ours: it works on the words of the room, and goes over N of them to test and to paint R.
 
 use super::plain::{is_graph, Tally};
 
