@@ -116,7 +116,7 @@ module _ {text : List ℕ} {held : ℕ} {flags places first second head next : L
           (state-full (roomFor held t) text at states here unknown
           (rw (states-long text flags places n) h))
 
-      pub declared-more : n < held → held ≤ length flags → 2 * held ≤ length places
+      declared-more : n < held → held ≤ length flags → 2 * held ≤ length places
           → held ≤ length first → held ≤ length second → held ≤ length next
           → Declared text held (set flags n flag) (set (set places (2 * n) (at + 2)) (2 * n + 1) (l .len))
           (set first n (l .first)) (set second n (l .second))
@@ -151,3 +151,14 @@ module _ {text : List ℕ} {held : ℕ} {flags places first second head next : L
 
           stands : take (length label) (drop (at + 2) text) ≡ label
           stands = rw (drop-drop 2 at text) at (state-place (drop at text) (here .whole) (here .is))
+
+      -- the same of lists in which it is stored
+      pub declared-put : {flags′ places′ first′ second′ head′ next′ : List ℕ}
+          → (flags′ ≡ set flags n flag) × (places′ ≡ set (set places (2 * n) (at + 2)) (2 * n + 1) (l .len))
+          × (first′ ≡ set first n (l .first)) × (second′ ≡ set second n (l .second))
+          × (head′ ≡ set head (bucketOf (l .first) (l .second)) (n + 1))
+          × (next′ ≡ set next n (getD head (bucketOf (l .first) (l .second)) 0))
+          → n < held → held ≤ length flags → 2 * held ≤ length places → held ≤ length first → held ≤ length second → held ≤ length next
+          → Declared text held flags′ places′ first′ second′ head′ next′ after (n + 1)
+      declared-put put h in-flags in-places in-first in-second in-next =
+          rw (put .0, put .1, put .2, put .3, put .4, put .5) (declared-more h in-flags in-places in-first in-second in-next)

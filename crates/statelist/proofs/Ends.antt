@@ -182,7 +182,7 @@ module _ (o t f p : ℕ) (text : List ℕ) where
         go (refused number line) is = absurd (let z : _≡_ {A = ℕ} 0 1 = cc in omega arith)
 
     -- a refusal: all words are 0
-    pub comes-refused : (r : Reading) → ((n e : ℕ) → r ≢ Graph n e)
+    comes-refused : (r : Reading) → ((n e : ℕ) → r ≢ Graph n e)
         → Fills offsets targets flags places r (from-here (roomsOf o t f p) text 0 [] [])
         → comes r (zeros o) (zeros t) (zeros f) (zeros p) ≡ outcome o t f p text
     unfolding outcome
@@ -191,3 +191,14 @@ module _ (o t f p : ℕ) (text : List ℕ) where
         go : (means : Meaning) → Fills offsets targets flags places r means → comes r (zeros o) (zeros t) (zeros f) (zeros p) ≡ filled o t f p means
         go (reads seen) is = absurd (no-graph _ _ (told-one r (Graph _ _) (ap (λ out. out .tells) is)))
         go (refused number line) is = rw is
+
+    -- the same of the lists that the second clearing leaves, where those of the first had these lengths
+    pub comes-cleared : {o′ t′ f′ p′ : ℕ} {offsets′ targets′ flags′ places′ : List ℕ} (r : Reading) → ((n e : ℕ) → r ≢ Graph n e)
+        → Fills offsets targets flags places r (from-here (roomsOf o′ t′ f′ p′) text 0 [] [])
+        → (offsets′ ≡ zeros (length offsets)) × (targets′ ≡ zeros (length targets)) × (flags′ ≡ zeros (length flags))
+        × (places′ ≡ zeros (length places))
+        → length offsets ≡ o′ → length targets ≡ t′ → length flags ≡ f′ → length places ≡ p′ → o′ ≡ o → t′ ≡ t → f′ ≡ f → p′ ≡ p
+        → comes r offsets′ targets′ flags′ places′ ≡ outcome o t f p text
+    comes-cleared r no-graph fills cleared o-same t-same f-same p-same o-is t-is f-is p-is =
+        rw (cleared .0, cleared .1, cleared .2, cleared .3, o-same, t-same, f-same, p-same, o-is, t-is, f-is, p-is)
+        (comes-refused r no-graph (rw (o-is, t-is, f-is, p-is) at fills))

@@ -7,7 +7,7 @@ use types.Run
 use borrow.Author.Needs.{needs}
 use Rattle.text.specs.Lists.{zeros}
 use Rattle.statelist.specs.declared.Reading.the-variants.{Graph}
-use Rattle.statelist.proofs.Ends.{comes-long, comes-graph, comes-refused}
+use Rattle.statelist.proofs.Ends.{comes-long, comes-graph, comes-cleared}
 use Rattle.statelist.proofs.read.Statement.{statement}
 use Rattle.statelist.proofs.read.Tie as tie
 
@@ -81,27 +81,9 @@ returns-2 c =
     let refusal = match-at .match .keys2 in
     let no-graph : (n e : ℕ) → filled .fill-all .result ≢ Graph n e =
     λ n e q. types.Run.miss (1 ∷ 2 ∷ 3 ∷ 4 ∷ 5 ∷ 6 ∷ 7 ∷ 8 ∷ []) 0 tt (rw q at refusal) in
-    let o = offsets-at .offsets .given in
-    let t = targets-at .targets .given in
-    let f = flags-at .flags .given in
-    let p = places-at .places .given in
-    let fills = rw (o, t, f, p) at (filled .fill-all .ensures) in
-    let cleared = again .clear-all2 .ensures in
-    rw (
-      cleared .0,
-      cleared .1,
-      cleared .2,
-      cleared .3,
-      offsets2-at .offsets2 .given,
-      targets2-at .targets2 .given,
-      flags2-at .flags2 .given,
-      places2-at .places2 .given,
-      o,
-      t,
-      f,
-      p,
-    )
-    (comes-refused _ _ _ _ _ _ _ _ _ (test .if1 .left) _ no-graph fills)
+    comes-cleared _ _ _ _ _ _ _ _ _ (test .if1 .left) _ no-graph (filled .fill-all .ensures) (again .clear-all2 .ensures)
+    (offsets2-at .offsets2 .given) (targets2-at .targets2 .given) (flags2-at .flags2 .given) (places2-at .places2 .given)
+    (offsets-at .offsets .given) (targets-at .targets .given) (flags-at .flags .given) (places-at .places .given)
 
 same-length-9 : tie.Need-same-length-9
 same-length-9 c = search needs

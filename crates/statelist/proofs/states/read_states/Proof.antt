@@ -7,7 +7,7 @@ use lib.ListN.{length, getD}
 use borrow.Author.Needs.{needs}
 use borrow.Author.Tests.{eqb-true, eqb-false}
 use Rattle.statelist.specs.Loops.{Declared}
-use Rattle.statelist.proofs.Declared.{label-short, state-past, declared-more}
+use Rattle.statelist.proofs.Declared.{label-short, state-past, declared-put}
 use Rattle.statelist.proofs.Here.{byte-inside, state-here}
 use Rattle.statelist.proofs.states.read_states.Statement.{statement}
 use Rattle.statelist.proofs.states.read_states.Tie as tie
@@ -152,10 +152,9 @@ loop-again c =
     let put = put-here .add-state .ensures in
     record {
       done =
-          rw (put .0, put .1, put .2, put .3, put .4, put .5)
-          (declared-more (inv .done) here (new .new) (new .room)
+          declared-put (inv .done) here (new .new) put (new .room)
           (omega (arith, pre .2, inv .f-long)) (omega (arith, pre .3, inv .p-long)) (omega (arith, pre .4, inv .a-long))
-          (omega (arith, pre .5, inv .b-long)) (omega (arith, pre .6, inv .x-long)));
+          (omega (arith, pre .5, inv .b-long)) (omega (arith, pre .6, inv .x-long));
       f-long = flags-at .flags .given ∙ inv .f-long;
       p-long = places-at .places .given ∙ inv .p-long;
       a-long = first-at .first .given ∙ inv .a-long;
