@@ -1,5 +1,5 @@
 -- What the private loops of src/ ask and promise. No public contract cites this page. What was read so far stands in the lent lists and in the
--- text, and what is left of the reading is said by the page `Text`.
+-- text, and what is left of the reading is said by the page `Text` of `text`.
 use Prim.Native.Nat.{ℕ, suc, _+_, _*_, _<_, _≤_}
 use mathlib.Core.Path.{_≡_}
 use mathlib.Core.Bool.{true}
