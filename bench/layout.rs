@@ -1,6 +1,6 @@
 // The run to the end in plain Rust with the same rules and layout as ours: it works on the words of the room, and goes over N of them to test and to paint R.
 
-use super::plain::{is_graph, Tally};
+use super::plain::{is_graph, room_size, Tally};
 
 const FRESH: u16 = 0;
 const OUTER: u16 = 1;
@@ -141,7 +141,7 @@ pub fn run_to_end(room: &mut [u16], lasso: &mut [u16], offsets: &[u16], targets:
     let mut tally = Tally::default();
     let n = flags.len();
     assert!(is_graph(offsets, targets, flags));
-    room[..2 * n + workers * (5 * n + 4)].fill(0);
+    room[..room_size(n, workers)].fill(0);
     let mut run = Run { room, offsets, targets, flags, n, workers };
     loop {
         for p in 0..workers {

@@ -162,7 +162,7 @@ fn main() {
         }
         "run" => {
             let graph = lists::graph(shape, n, e);
-            let (room, lasso) = (vec![7; 2 * n + p * (5 * n + 4)], vec![7; 2 * n]);
+            let (room, lasso) = (vec![7; plain::room_size(n, p)], vec![7; 2 * n]);
             go(how, who, &Run { graph: &graph, workers: p, room, lasso, tally: Tally::default(), answer: None });
         }
         _ => usage(),

@@ -3,7 +3,7 @@
 use std::fmt;
 
 use super::graphs::{self, Words};
-use super::plain::Tally;
+use super::plain::{room_size, Tally};
 use super::random::Random;
 use super::texts::{self, List};
 
@@ -250,11 +250,6 @@ fn waiting_turns(random: &mut Random, workers: usize, words: &Words) -> Vec<u8> 
     let left = random.below(each * workers);
     turns.extend(bursts(random, workers, left, each / 2));
     turns
-}
-
-/// "2N + P × (5N + 4) 16-bit words".
-pub fn room_size(states: usize, workers: usize) -> usize {
-    2 * states + workers * (5 * states + 4)
 }
 
 fn random_workers(random: &mut Random, to_end: bool) -> u64 {

@@ -8,9 +8,10 @@ const MOST_STATES: usize = 4_096;
 const MOST_TRANSITIONS: usize = 16_384;
 const MOST_WORKERS: u64 = 8;
 
-const UNDECIDED: u32 = 0;
-const CYCLE: u32 = 1;
-const NONE: u32 = 2;
+// The answers of a run.
+pub const UNDECIDED: u32 = 0;
+pub const CYCLE: u32 = 1;
+pub const NONE: u32 = 2;
 
 #[repr(C)]
 #[derive(Clone, Copy, Debug, Default, PartialEq, Eq)]
@@ -463,7 +464,7 @@ fn write_stack(words: &mut [u16], stack: &[u16]) {
 }
 
 /// "Room 11 is 2N + P × (5N + 4) 16-bit words".
-fn room_size(states: usize, workers: usize) -> usize {
+pub fn room_size(states: usize, workers: usize) -> usize {
     2 * states + workers * (5 * states + 4)
 }
 
@@ -541,6 +542,21 @@ fn refusal(room: &[u16], lasso: &[u16], turns: &[u8], graph: Graph, workers: u64
     }
 }
 
+/// A run that is not refused.
+fn from_the_start(
+    room: &mut [u16],
+    lasso: &mut [u16],
+    tally: &mut Tally,
+    graph: Graph,
+    workers: usize,
+    turns: impl Iterator<Item = usize>,
+) -> RunAnswer {
+    let mut machine = Machine::new(graph, workers);
+    let answer = machine.search(lasso, tally, turns);
+    machine.write_room(room);
+    answer
+}
+
 /// The run over a given turn list. "a refused run changes no lent word and no tally."
 pub fn run(
     room: &mut [u16],
@@ -554,12 +570,7 @@ pub fn run(
 ) -> RunAnswer {
     let graph = Graph { offsets, targets, flags };
     match refusal(room, lasso, turns, graph, workers) {
-        0 => {
-            let mut machine = Machine::new(graph, workers as usize);
-            let answer = machine.search(lasso, tally, turns.iter().map(|&turn| usize::from(turn)));
-            machine.write_room(room);
-            answer
-        }
+        0 => from_the_start(room, lasso, tally, graph, workers as usize, turns.iter().map(|&turn| usize::from(turn))),
         refusal => RunAnswer { refusal, ..RunAnswer::default() },
     }
 }
@@ -577,12 +588,7 @@ pub fn run_to_end(
     let workers = if workers == 0 { 2 } else { workers };
     let graph = Graph { offsets, targets, flags };
     match refusal(room, lasso, &[], graph, workers) {
-        0 => {
-            let mut machine = Machine::new(graph, workers as usize);
-            let answer = machine.search(lasso, tally, (0..workers as usize).cycle());
-            machine.write_room(room);
-            answer
-        }
+        0 => from_the_start(room, lasso, tally, graph, workers as usize, (0..workers as usize).cycle()),
         refusal => RunAnswer { refusal, ..RunAnswer::default() },
     }
 }

@@ -1,8 +1,7 @@
 // 01's small graphs and texts with their stated answers. Both the plain implementation and ours are held to them.
 
-use super::cases::room_size;
 use super::graphs::{many_states, Words};
-use super::plain::{ReadAnswer, RunAnswer, Tally};
+use super::plain::{room_size, ReadAnswer, RunAnswer, Tally, CYCLE, NONE, UNDECIDED};
 use super::{ours, plain, texts};
 
 /// One of the two implementations.
@@ -18,10 +17,6 @@ pub const PLAIN: Side = Side { name: "plain", is_graph: plain::is_graph, read: p
 pub const OURS: Side = Side { name: "ours", is_graph: ours::is_graph, read: ours::read, run: ours::run, run_to_end: ours::run_to_end };
 
 const TEXT_0417: &[u8] = b"S\t0417\t-\nS\t417\ta\nT\t0417\t417\nT\t417\t417\n";
-
-const UNDECIDED: u32 = 0;
-const CYCLE: u32 = 1;
-const NONE: u32 = 2;
 
 /// A stated run: the graph, the turns, the answer, the turns used, the moves and the waits.
 struct Row {
@@ -41,86 +36,23 @@ struct Row {
 const NO_LASSO: Row =
     Row { name: "", flags: &[], successors: &[], workers: 1, turns: &[], answer: NONE, used: 0, moves: 0, waits: 0, stem: &[], loop_: &[] };
 
+const OF_0417: Row = Row { flags: &[0, 1], successors: &[&[1], &[1]], workers: 2, ..NO_LASSO };
+const OF_I: Row = Row { flags: &[1, 1], successors: &[&[1], &[]], workers: 2, ..NO_LASSO };
+
 // Where 01 names no turns there are some more than the answer takes.
 const ROWS: [Row; 13] = [
     Row { name: "a", flags: &[0], successors: &[&[]], turns: &[0, 0], used: 2, moves: 2, ..NO_LASSO },
     Row { name: "b", flags: &[1], successors: &[&[]], turns: &[0; 6], used: 4, moves: 4, ..NO_LASSO },
     Row { name: "c", flags: &[1], successors: &[&[0]], turns: &[0; 6], answer: CYCLE, used: 4, moves: 4, loop_: &[0], ..NO_LASSO },
     Row { name: "d", flags: &[0], successors: &[&[0]], turns: &[0; 6], used: 3, moves: 3, ..NO_LASSO },
-    Row {
-        name: "e",
-        flags: &[0, 1],
-        successors: &[&[1], &[1]],
-        workers: 2,
-        turns: &[0, 1, 0, 1, 0, 1, 0, 1, 0],
-        answer: CYCLE,
-        used: 9,
-        moves: 9,
-        waits: 0,
-        stem: &[0],
-        loop_: &[1],
-    },
-    Row {
-        name: "f, first list",
-        flags: &[0, 1],
-        successors: &[&[1], &[1]],
-        workers: 2,
-        turns: &[1, 1, 1, 1, 0, 0, 0],
-        answer: UNDECIDED,
-        used: 7,
-        moves: 7,
-        ..NO_LASSO
-    },
-    Row {
-        name: "f, second list",
-        flags: &[0, 1],
-        successors: &[&[1], &[1]],
-        workers: 2,
-        turns: &[1, 1, 1, 1, 0, 0, 0, 1],
-        answer: CYCLE,
-        used: 8,
-        moves: 8,
-        waits: 0,
-        stem: &[0],
-        loop_: &[1],
-    },
+    Row { name: "e", turns: &[0, 1, 0, 1, 0, 1, 0, 1, 0], answer: CYCLE, used: 9, moves: 9, stem: &[0], loop_: &[1], ..OF_0417 },
+    Row { name: "f, first list", turns: &[1, 1, 1, 1, 0, 0, 0], answer: UNDECIDED, used: 7, moves: 7, ..OF_0417 },
+    Row { name: "f, second list", turns: &[1, 1, 1, 1, 0, 0, 0, 1], answer: CYCLE, used: 8, moves: 8, stem: &[0], loop_: &[1], ..OF_0417 },
     Row { name: "g", flags: &[0, 1], successors: &[&[], &[1]], turns: &[0; 6], used: 2, moves: 2, ..NO_LASSO },
     Row { name: "h", flags: &[1, 0], successors: &[&[1], &[1]], turns: &[0; 12], used: 10, moves: 10, ..NO_LASSO },
-    Row {
-        name: "i, before the wait",
-        flags: &[1, 1],
-        successors: &[&[1], &[]],
-        workers: 2,
-        turns: &[1, 1, 1, 0, 0, 0, 0, 0, 0],
-        answer: UNDECIDED,
-        used: 9,
-        moves: 9,
-        ..NO_LASSO
-    },
-    Row {
-        name: "i",
-        flags: &[1, 1],
-        successors: &[&[1], &[]],
-        workers: 2,
-        turns: &[1, 1, 1, 0, 0, 0, 0, 0, 0, 0],
-        answer: UNDECIDED,
-        used: 10,
-        moves: 9,
-        waits: 1,
-        ..NO_LASSO
-    },
-    Row {
-        name: "j",
-        flags: &[1, 1],
-        successors: &[&[1], &[]],
-        workers: 2,
-        turns: &[1, 1, 1, 0, 0, 0, 0, 0, 0, 0, 1, 1, 0, 1, 1, 1, 1],
-        answer: NONE,
-        used: 17,
-        moves: 16,
-        waits: 1,
-        ..NO_LASSO
-    },
+    Row { name: "i, before the wait", turns: &[1, 1, 1, 0, 0, 0, 0, 0, 0], answer: UNDECIDED, used: 9, moves: 9, ..OF_I },
+    Row { name: "i", turns: &[1, 1, 1, 0, 0, 0, 0, 0, 0, 0], answer: UNDECIDED, used: 10, moves: 9, waits: 1, ..OF_I },
+    Row { name: "j", turns: &[1, 1, 1, 0, 0, 0, 0, 0, 0, 0, 1, 1, 0, 1, 1, 1, 1], used: 17, moves: 16, waits: 1, ..OF_I },
     // "A list that ends first, also the empty one, gives "undecided"."
     Row { name: "a, no turns", flags: &[0], successors: &[&[]], answer: UNDECIDED, ..NO_LASSO },
 ];

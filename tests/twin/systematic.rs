@@ -2,9 +2,9 @@
 
 use std::collections::HashSet;
 
-use super::cases::{junk, junk_tally, lent_reading, most_moves, room_size, Case, Run};
+use super::cases::{junk, junk_tally, lent_reading, most_moves, Case, Run};
 use super::graphs::{all_graphs, Words};
-use super::plain::{self, Tally};
+use super::plain::{self, room_size, Tally};
 use super::random::Random;
 use super::texts;
 

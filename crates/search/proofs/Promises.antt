@@ -132,6 +132,10 @@ module _ {offsets targets flags turns : List ℕ} {P number : ℕ} {l lasso : Li
     unfolding left
     tells-is = ap (λ k. k .tells) (answered-so not-refused)
 
+    -- what is told is the run's answer
+    tells-as : (a : Answer) {says : Told} → end .answer ≡ a → told r ≡ says → tellsOf a (end .used) ≡ says
+    tells-as a q e = sym (tells-is ∙ ap (λ a. tellsOf a (end .used)) q) ∙ e
+
     lasso-is : lasso′ ≡ shown (end .answer) lasso
     unfolding left
     lasso-is = ap (λ k. k .lasso) (answered-so not-refused)
@@ -187,12 +191,12 @@ module _ {offsets targets flags turns : List ℕ} {P number : ℕ} {l lasso : Li
       where
         go : (a : Answer) → end .answer ≡ a → (xs : List ℕ) × (ys : List ℕ) × (end .answer ≡ cycle xs ys) × (length xs ≡ stem) × (length ys ≡ loop)
         go (cycle xs ys) q =
-            let same : told-cycle (length xs) (length ys) (end .used) ≡ told-cycle stem loop used = sym (tells-is ∙ ap (λ a. tellsOf a (end .used)) q) ∙ e in
+            let same : told-cycle (length xs) (length ys) (end .used) ≡ told-cycle stem loop used = tells-as (cycle xs ys) q e in
             let stem-long : length xs ≡ stem = cc in
             let loop-long : length ys ≡ loop = cc in
             (xs, ys, q, stem-long, loop-long)
-        go none q = let z = ap wordNumber (sym (tells-is ∙ ap (λ a. tellsOf a (end .used)) q) ∙ e) in absurd (omega (arith, z))
-        go undecided q = let z = ap wordNumber (sym (tells-is ∙ ap (λ a. tellsOf a (end .used)) q) ∙ e) in absurd (omega (arith, z))
+        go none q = let z = ap wordNumber (tells-as none q e) in absurd (omega (arith, z))
+        go undecided q = let z = ap wordNumber (tells-as undecided q e) in absurd (omega (arith, z))
 
     -- 2. ""cycle" comes with a real path from the initial state and a real loop holding a marked state": stem and then loop, in the lasso room
     pub cycle-shown : (stem loop used : ℕ) → told r ≡ told-cycle stem loop used
@@ -231,22 +235,22 @@ module _ {offsets targets flags turns : List ℕ} {P number : ℕ} {l lasso : Li
       where
         go : (a : Answer) → end .answer ≡ a → MarkedLoop g → ⊥
         go none q = none-is-none g P sound some turns named q
-        go (cycle xs ys) q = let z = ap wordNumber (sym (tells-is ∙ ap (λ a. tellsOf a (end .used)) q) ∙ e) in absurd (omega (arith, z))
-        go undecided q = let z = ap wordNumber (sym (tells-is ∙ ap (λ a. tellsOf a (end .used)) q) ∙ e) in absurd (omega (arith, z))
+        go (cycle xs ys) q = let z = ap wordNumber (tells-as (cycle xs ys) q e) in absurd (omega (arith, z))
+        go undecided q = let z = ap wordNumber (tells-as undecided q e) in absurd (omega (arith, z))
 
     undecided-answer : (used : ℕ) → told r ≡ told-undecided used → end .answer ≡ undecided
     undecided-answer used e = go (end .answer) refl
       where
         go : (a : Answer) → end .answer ≡ a → a ≡ undecided
         go undecided q = refl
-        go (cycle xs ys) q = let z = ap wordNumber (sym (tells-is ∙ ap (λ a. tellsOf a (end .used)) q) ∙ e) in absurd (omega (arith, z))
-        go none q = let z = ap wordNumber (sym (tells-is ∙ ap (λ a. tellsOf a (end .used)) q) ∙ e) in absurd (omega (arith, z))
+        go (cycle xs ys) q = let z = ap wordNumber (tells-as (cycle xs ys) q e) in absurd (omega (arith, z))
+        go none q = let z = ap wordNumber (tells-as none q e) in absurd (omega (arith, z))
 
     -- ""undecided" only if the list ran out first"
     pub undecided-used-all : (used : ℕ) → told r ≡ told-undecided used → used ≡ length turns
     undecided-used-all used e =
         let open-end = undecided-answer used e in
-        let same : told-undecided (end .used) ≡ told-undecided used = sym (tells-is ∙ ap (λ a. tellsOf a (end .used)) open-end) ∙ e in
+        let same : told-undecided (end .used) ≡ told-undecided used = tells-as undecided open-end e in
         let k : end .used ≡ used = cc in
         sym k ∙ undecided-ran-out g P turns open-end
 

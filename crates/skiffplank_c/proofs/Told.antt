@@ -1,6 +1,6 @@
--- What a run tells fits 32 bits, and its answer with the words that it leaves is what comes of the call: for the two functions that hold a tally.
+-- What is told fits 32 bits. For the two functions that hold a tally: the answer, with the words that a run leaves, is what comes of the call.
 use Prim.Native.Nat.{ℕ}
-use mathlib.Core.Path.{_≡_, refl, ap}
+use mathlib.Core.Path.{_≡_, refl, sym, ap}
 use mathlib.Core.List.{List}
 use native.Mathlib.Omega.{arith}
 use Rattle.graphs.proofs.Words.{words-are}
@@ -9,8 +9,20 @@ use Rattle.ends.specs.declared.Outcome.{Outcome}
 use Rattle.ends.specs.Told.{Told, told-cycle, told-none, told-undecided, told-refusal, told}
 use Rattle.search.specs.Outcomes.{Lent, lent, outcome, outcomeToEnd}
 use Rattle.search.proofs.Promises.{Call, run-call, end-call, refuses, not-refused, cycle-few}
+use Rattle.text.specs.Lists as text
+use Rattle.text.proofs.Told.{graph-low, refusal-low}
+use Rattle.statelist.specs.declared.Reading.{Reading}
+use Rattle.statelist.specs.Told.{comes, told as told·reading}
 use Rattle.skiffplank_c.specs.declared.RunAnswer.{RunAnswer}
-use Rattle.skiffplank_c.specs.Answers.{runAnswer, runCall, runCallOf, RunFits}
+use Rattle.skiffplank_c.specs.Answers.{runAnswer, runCall, runCallOf, ReadFits, RunFits}
+
+pub read-fits : (o t f p : ℕ) (bytes : List ℕ) (r : Reading) (offsets targets flags places : List ℕ)
+    → comes r offsets targets flags places ≡ text.outcome o t f p bytes → ReadFits (told·reading r)
+read-fits o t f p bytes r offsets targets flags places e = go (told·reading r) (sym (ap (λ out. out .tells) e))
+  where
+    go : (says : text.Told) → text.outcome o t f p bytes .tells ≡ says → ReadFits says
+    go (text.graph n k) q = let low = graph-low o t f p bytes n k q in (omega (arith, low .0), omega (arith, low .1))
+    go (text.refusal number line) q = omega (arith, refusal-low o t f p bytes number line q .2)
 
 -- no state stands twice in stem and loop, and a graph has at most 4,096
 call-fits : {offsets targets flags turns : List ℕ} {P number : ℕ} {l lasso : List ℕ} {t : Tally} {r : Outcome} {l′ lasso′ : List ℕ} {t′ : Tally}

@@ -49,9 +49,9 @@ abbrev pub runCallOf : RunAnswer → (room lasso : List ℕ) → Tally → RunCa
 runCallOf r room lasso tally = record { answer = r; room = room; lasso = lasso; tally = tally }
 
 -- what is told fits 32 bits
-abbrev pub Fits : Told → Type 0
-Fits (graph states transitions) = (states < 4294967296) × (transitions < 4294967296)
-Fits (refusal number line) = line < 4294967296
+abbrev pub ReadFits : Told → Type 0
+ReadFits (graph states transitions) = (states < 4294967296) × (transitions < 4294967296)
+ReadFits (refusal number line) = line < 4294967296
 
 abbrev pub RunFits : Told·run → Type 0
 RunFits (told-cycle stem loop used) = (stem < 4294967296) × (loop < 4294967296)

@@ -11,10 +11,10 @@ ghost use Prim.Native.Nat.{_<_};
 ghost use Rattle.text.specs.Lists as text;
 ghost use Rattle.statelist.specs.Told.{told as told·reading};
 ghost use Rattle.ends.specs.Told.{told-refusal, told-cycle, told};
-ghost use Rattle.skiffplank_c.specs.Answers.{readAnswer, runAnswer, Fits, RunFits};
+ghost use Rattle.skiffplank_c.specs.Answers.{readAnswer, runAnswer, ReadFits, RunFits};
 
 pub fn read_answer(reading: Reading) -> ReadAnswer
-    requires { ⌜ Fits (told·reading reading) ⌝ }
+    requires { ⌜ ReadFits (told·reading reading) ⌝ }
     ensures { λ r. ⌜ r ≡ readAnswer (told·reading reading) ⌝ }
 {
     let Reading::Graph {

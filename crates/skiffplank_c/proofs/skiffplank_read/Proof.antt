@@ -2,7 +2,7 @@
 use mathlib.Core.Path.{ap}
 use borrow.Author.Needs.{needs}
 use Rattle.skiffplank_c.specs.Answers.{readCall}
-use Rattle.skiffplank_c.proofs.Fits.{read-fits}
+use Rattle.skiffplank_c.proofs.Told.{read-fits}
 use Rattle.skiffplank_c.proofs.skiffplank_read.Statement.{statement}
 use Rattle.skiffplank_c.proofs.skiffplank_read.Tie as tie
 

@@ -10,7 +10,7 @@ use Rattle.statelist.specs.declared.Reading.the-variants.{Graph}
 use Rattle.text.specs.Lists.{graph, refusal}
 use Rattle.statelist.specs.Told.{told}
 use Rattle.refusals.proofs.Numbers.{no-graph-refusal}
-use Rattle.skiffplank_c.specs.Answers.{Fits}
+use Rattle.skiffplank_c.specs.Answers.{ReadFits}
 use Rattle.skiffplank_c.proofs.answers.read_answer.Statement.{statement}
 use Rattle.skiffplank_c.proofs.answers.read_answer.Tie as tie
 
@@ -36,7 +36,7 @@ returns c = rw (told-refusal (c .before)) (c .refused .ensures)
 
 graph-requires : tie.Need-graph-requires
 graph-requires c κs =
-    let fits : Fits (graph _ _) = rw (c .before .reading .given .1) at (c .before .before .before .pre) in
+    let fits : ReadFits (graph _ _) = rw (c .before .reading .given .1) at (c .before .before .before .pre) in
     (omega (arith, fits .0, fits .1), omega (arith, fits .0, fits .1))
 
 returns-2 : tie.Need-returns-2
