@@ -1,4 +1,6 @@
 // The two words of `replay`: a worker count; and a turn list, one digit a turn, or `-` for the empty list, or `end`.
+#![tactic(auto)]
+
 mod digits;
 
 ghost use Rattle.std.specs.Prelude.{◌≡◌};

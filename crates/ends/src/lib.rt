@@ -1,4 +1,6 @@
 // The two ends of a run: before the first move the refusals and the starting state, after the last one what the run tells.
+#![tactic(auto)]
+
 mod lasso;
 
 ghost use Rattle.std.specs.Prelude.{◌≡◌, length};
@@ -13,7 +15,7 @@ use steps::{Standing, Stop, standing_in, standing_on};
 use words::clear;
 
 // What a run came to: an answer, with the turns used, or a refusal, in the order of 01's numbers 9 to 13.
-#[derive(Drop)]
+#[derive(Clone, Copy)]
 pub enum Outcome {
     // the lengths of stem and loop, and the turns used
     Cycle {

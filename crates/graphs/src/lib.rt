@@ -1,4 +1,6 @@
 // Whether words are a graph: the check behind refusal 10.
+#![tactic(auto)]
+
 mod checks;
 
 ghost use Rattle.std.specs.Prelude.{◌≡◌};

@@ -1,4 +1,6 @@
 // `is_graph` for C and Rust to link: the same answer, under a name that begins with the crate's.
+#![tactic(auto)]
+
 ghost use Rattle.std.specs.Prelude.{◌≡◌};
 ghost use Rattle.graphs.specs.Words.{is_graph};
 

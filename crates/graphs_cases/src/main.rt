@@ -1,4 +1,6 @@
 // Runs `is_graph` on words that are a graph, and on words that break each clause of refusal 10 at its edge, and prints what it says.
+#![tactic(auto)]
+
 ghost use Rattle.std.specs.Prelude.{◌≡◌, ◌<◌, ◌≤◌, length};
 
 fn main() {

@@ -1,4 +1,6 @@
 // Reading all of a program's input, so that a reading that fails is not taken for the end of the text.
+#![tactic(auto)]
+
 ghost use Rattle.input.specs.Got.{Got};
 
 #[derive(Drop)]

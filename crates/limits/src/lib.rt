@@ -1,4 +1,6 @@
 // Refusals 9 to 13, in 01's order: a run checks them before its first move.
+#![tactic(auto)]
+
 ghost use Rattle.std.specs.Prelude.{◌≡◌, [], ◌≤◌};
 ghost use Rattle.moves.specs.Room.{room_size};
 ghost use Rattle.limits.specs.Refusals.{most_workers, workers_fit, turns_fit, refusal_of, usual};

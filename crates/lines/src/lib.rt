@@ -1,4 +1,6 @@
 // Bytes, labels and lines: the kinds of bytes, and whether a state or a transition stands at a place of a text.
+#![tactic(auto)]
+
 mod kinds;
 mod scan;
 

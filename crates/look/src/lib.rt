@@ -1,4 +1,6 @@
 // Choosing worker p's move, which only reads. The room has the shared colours in front and the worker's stretch from `a` on (docs/ROOM.md).
+#![tactic(auto)]
+
 mod moved;
 mod successor;
 mod waiting;

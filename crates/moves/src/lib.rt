@@ -1,12 +1,14 @@
 // A worker's place, the move that a turn makes, and the tally of a run: the types that the machine of 01 and the search's code share. The place
 // has a method for each move that changes it, which takes the place and hands it back; the tally is raised by the move.
+#![tactic(auto)]
+
 ghost use Rattle.std.specs.Prelude.{◌≡◌};
 ghost use Rattle.moves.specs.Place.{started, left, seeded, backed, painted};
 ghost use Rattle.moves.specs.Room.{kind_word, seed_word, place_of};
 ghost use Rattle.moves.specs.Tally.{raised, entered, joined, waited, changed, Low};
 
 // 01: "not started, outer search, inner search with its seed, waiting with its seed, or done"
-#[derive(Drop)]
+#[derive(Clone, Copy)]
 pub enum Place {
     Fresh,
     Outer,
@@ -127,7 +129,7 @@ pub fn place_of(kind: u16, seed: u16) -> Place
 }
 
 // The move that a turn makes, with the states that it is about: s is the top of the stack, x the successor that is taken from it.
-#[derive(Drop)]
+#[derive(Clone, Copy)]
 pub enum Move {
     // 1
     Start,
@@ -152,7 +154,7 @@ pub enum Move {
 
 // 01: "outer entries, inner entries, waits, and moves that change something". Its layout is that of C: `skiffplank_c` lends it on.
 #[repr(C)]
-#[derive(Drop)]
+#[derive(Clone, Copy)]
 pub struct Tally {
     pub outer: u64,
     pub inner: u64,

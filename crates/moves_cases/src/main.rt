@@ -1,4 +1,6 @@
 // Runs each method of `Place` on each place, and `Tally::raised` on each move, and prints what they give.
+#![tactic(auto)]
+
 ghost use Rattle.std.specs.Prelude.{◌≡◌, ◌<◌};
 
 use moves::{Move, Place, Tally};

@@ -1,5 +1,7 @@
 // Writing into a page, bytes that the caller lends: bytes, numbers, and lines of numbers. Each function writes from a place on, and answers where it
 // ended; what it asks is that the page holds what is written.
+#![tactic(auto)]
+
 mod number;
 
 ghost use Rattle.std.specs.Prelude.{length, ◌≡◌};

@@ -1,4 +1,6 @@
 // Numbered pairs of words in lent lists: looking a pair up, and adding one, through chains of pairs of one bucket.
+#![tactic(auto)]
+
 mod buckets;
 
 ghost use Rattle.std.specs.Prelude.{◌≡◌, ◌<◌, length};

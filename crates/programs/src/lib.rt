@@ -1,4 +1,6 @@
 // What the programs print, from text to page.
+#![tactic(auto)]
+
 mod replay;
 mod skiffplank;
 

@@ -1,4 +1,6 @@
 // 01's number and line of what a reading or a run came to: "a definition gives this paper's number and values for each of its cases".
+#![tactic(auto)]
+
 ghost use Rattle.std.specs.Prelude.{◌≡◌};
 ghost use Rattle.ends.specs.Told.{told};
 ghost use Rattle.statelist.specs.Told.{told as told_reading};

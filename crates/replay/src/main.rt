@@ -1,5 +1,7 @@
 // replay WORKERS TURNS: repeats a finding turn by turn. Reads a full-size state list from standard input, and prints what came of the run and where
 // each worker stands.
+#![tactic(auto)]
+
 ghost use Rattle.std.specs.Prelude.{◌≡◌, length};
 ghost use Rattle.io.specs.Counts.{IsPrefixLen};
 

@@ -1,4 +1,6 @@
 // The lines that the programs print, written into a lent page: 01 "The program", and those of `replay`.
+#![tactic(auto)]
+
 mod labels;
 mod workers;
 

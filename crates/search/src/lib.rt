@@ -1,4 +1,6 @@
 // The two runs of 01 over lent words: refusals 9 to 13, the moves by turns, and the lasso.
+#![tactic(auto)]
+
 mod turns;
 
 ghost use Rattle.std.specs.Prelude.{◌≡◌};

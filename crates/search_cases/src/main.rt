@@ -2,6 +2,8 @@
 // A case is a line of eight fields, parted by tabs: name; workers, words of the room, words of the lasso room, as numbers; turns, offsets, targets
 // and flags, a byte for each: how far it is above `0`. Turns `*` are the run to the end. A field that is left out is 0, or empty.
 // The cases, and what has to be printed, are made by tests/runs.
+#![tactic(auto)]
+
 ghost use Rattle.std.specs.Prelude.{◌≤◌, length};
 ghost use Rattle.io.specs.Counts.{IsPrefixLen};
 

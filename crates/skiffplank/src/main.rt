@@ -1,4 +1,6 @@
 // 01 "The program": reads state-list text from standard input, looks for a loop through a mark, and prints what it finds.
+#![tactic(auto)]
+
 use input::Input;
 use programs::search_page;
 

@@ -1,4 +1,6 @@
 // The library for C and Rust to link: the reader and the two runs. A slice passes as a pointer and a length. include/skiffplank.h declares them for C.
+#![tactic(auto)]
+
 mod answers;
 
 ghost use Rattle.std.specs.Prelude.{◌≡◌, length};

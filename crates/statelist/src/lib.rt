@@ -1,4 +1,6 @@
 // Reading state-list text: 01 "The text", refusals 1 to 8.
+#![tactic(auto)]
+
 mod fill;
 mod lists;
 mod rooms;

@@ -1,6 +1,8 @@
 // Runs `read` on the cases of standard input, and on texts at 01's largest length, and prints what it says and each word of the lent lists.
 // A case is a line `LLLL name`, a text, and byte 30, which stands in no text. An L gives the length of a lent list: how far it is above `0`.
 // The cases, and what has to be printed, are made by tests/texts.
+#![tactic(auto)]
+
 ghost use Rattle.std.specs.Prelude.{◌≡◌, ◌≤◌, length};
 
 use statelist::Reading;

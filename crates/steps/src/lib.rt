@@ -1,4 +1,6 @@
 // Where a run stands between two turns, and the move of the next one with what it brings.
+#![tactic(auto)]
+
 mod played;
 
 ghost use Rattle.std.specs.Prelude.{◌≡◌, ◌≤◌};
@@ -9,7 +11,7 @@ use moves::Move;
 use played::play;
 
 // What a run has come to: nothing yet, "none", "cycle" by worker and state taken, or a refusal.
-#[derive(Drop)]
+#[derive(Clone, Copy)]
 pub enum Stop {
     Open,
     Quiet,
@@ -18,7 +20,7 @@ pub enum Stop {
 }
 
 // Whether there is a turn to make, its worker (0 if there is none), the turns used, and what the run has come to.
-#[derive(Drop)]
+#[derive(Clone, Copy)]
 pub struct Standing {
     pub going: bool,
     pub next: usize,

@@ -1,5 +1,7 @@
 // A worker's stretch of the room (docs/ROOM.md): its place and stack depths, and what each move stores in it. A move reads its numbers first and
 // stores after that; the shared colours are not in a stretch.
+#![tactic(auto)]
+
 ghost use Rattle.std.specs.Prelude.{◌≡◌, ◌+◌, ◌≤◌, ◌<◌, length};
 ghost use Rattle.stretch.specs.Own.{own_in};
 ghost use Rattle.stretch.specs.Stores.{Sized, Counts, put_words, start_words, take_words, enter_words, pop_words, leave_words};
@@ -9,7 +11,7 @@ use moves::{Place, place_of};
 use words::{clear, wide};
 
 // A worker's place, beside the depths of its two stacks.
-#[derive(Drop)]
+#[derive(Clone, Copy)]
 pub struct Own {
     pub place: Place,
     pub outer: u16,

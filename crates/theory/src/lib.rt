@@ -1,2 +1,3 @@
 // No code: what holds of the machine of 01, whatever runs it. The definitions are in specs/, the theorems in proofs/, the demands in
 // proofs/Demands.antt.
+#![tactic(auto)]

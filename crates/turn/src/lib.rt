@@ -1,4 +1,6 @@
 // One turn on the room: choosing worker p's move only reads, making it only writes.
+#![tactic(auto)]
+
 mod made;
 
 ghost use Rattle.turn.specs.Turn.{Poised, Turns};

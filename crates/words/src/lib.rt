@@ -1,4 +1,6 @@
 // Words of 16 bits as numbers and back, and words set to 0.
+#![tactic(auto)]
+
 ghost use Rattle.std.specs.Prelude.{◌≡◌, ◌<◌, length, replicate};
 
 pub fn wide(x: u16) -> usize
