@@ -34,9 +34,11 @@ module _ (g : Graph) where
   chain_right (x ∷ s) t k = linked_right x s t k
 
   pub chain_walk : (s y : ℕ) (l : List ℕ) → Begins s l → Chain g l → Mem y l → Walk g s y
+  chain_walk s y [] e k m = elim e [ ]
   chain_walk s y (x ∷ l) e k m = rw (sym e) (linked_walk x l k y m)
 
   pub closed_far : (y : ℕ) (l : List ℕ) → Chain g l → Closes g l → Mem y l → Far g y y
+  closed_far y [] k e m = elim e [ ]
   closed_far y (x ∷ l) k e m = walk_far (linked_final x l k y m) (far_join (edge_far e) (linked_walk x l k y m))
 
   pub lasso_marked_loop : (stem loop : List ℕ) → Lasso g stem loop → MarkedLoop g

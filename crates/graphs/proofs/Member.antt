@@ -12,6 +12,7 @@ use Rattle.graphs.specs.Lists.{Mem, elem}
 use Rattle.graphs.proofs.Tests.{clash, not_both, or_cases, or_inl, or_inr}
 
 pub mem_left : (x : ℕ) (s t : List ℕ) → Mem x s → Mem x (s ++ t)
+mem_left x [] t absent = elim absent [ ]
 mem_left x (y ∷ s) t (inl e) = inl e
 mem_left x (y ∷ s) t (inr h) = inr (mem_left x s t h)
 
@@ -29,6 +30,7 @@ mem_cases x (y ∷ s) t (inr h) = go (mem_cases x s t h)
     go (inr m) = inr m
 
 pub mem_reverse : (x : ℕ) (l : List ℕ) → Mem x l → Mem x (reverse l)
+mem_reverse x [] absent = elim absent [ ]
 mem_reverse x (y ∷ l) (inl e) = rw (reverse-cons y l) (mem_right x (reverse l) (y ∷ []) (inl e))
 mem_reverse x (y ∷ l) (inr m) = rw (reverse-cons y l) (mem_left x (reverse l) (y ∷ []) (mem_reverse x l m))
 
@@ -43,6 +45,7 @@ mem_drop x k l h = rw (take-append-drop k l) at (mem_right x (take k l) (drop k 
 
 -- every member stands at a place below the length
 pub mem_place : (x : ℕ) (l : List ℕ) → Mem x l → (i : ℕ) × (i < length l) × (get_or l i 0 ≡ x)
+mem_place x [] absent = elim absent [ ]
 mem_place x (y ∷ l) (inl e) = (0, omega arith, sym e)
 mem_place x (y ∷ l) (inr h) = let p = mem_place x l h in (suc p.0, omega (arith, p.1), p.2)
 
@@ -102,6 +105,7 @@ elem_mem x (y ∷ l) e = go (elem_mem x l) (or_cases (eqb x y) (elem x l) e)
 
 pub mem_elem : (x : ℕ) (l : List ℕ) → Mem x l → elem x l ≡ true
 unfolding elem
+mem_elem x [] absent = elim absent [ ]
 mem_elem x (y ∷ l) (inl p) = or_inl (eqb x y) (elem x l) (eq-eqb x y p)
 mem_elem x (y ∷ l) (inr h) = or_inr (eqb x y) (elem x l) (mem_elem x l h)
 

@@ -1,7 +1,7 @@
 -- What is left for one worker: more blue and more red do not raise it, and each changing move of the worker lowers it. A move lowers it at one
 -- state, the one that is taken from or leaves its stack, and raises it at none.
 use Prim.Native.Nat.{ℕ, ◌≤◌, ◌<◌, zero-le}
-use mathlib.Core.Path.{◌≡◌, refl, sym, ap, ◌∙◌}
+use mathlib.Core.Path.{◌≡◌, refl, sym, ap, subst, ◌∙◌}
 use mathlib.Core.Bool.{Bool, true, false, cond, not, ◌&&◌, ◌||◌, or_comm}
 use mathlib.Core.List.{List, [], ◌∷◌}
 use mathlib.Core.Logic.{◌⊎◌, inl, inr, ◌≢◌}
@@ -223,7 +223,7 @@ module _ {g : Graph} (sound : Sound g) {blue : ℕ → Bool} {dead : ℕ → Typ
             once = (rw e at (at l ep).1.once).0
 
             apart : s ≢ z
-            apart h = once (rw h (trail_bottom g z x v t.1))
+            apart h = once (subst (λ (y : ℕ). Mem y (x ∷ v)) (sym h) (trail_bottom g z x v t.1))
 
   -- move 6
   pub paint_lowers : {z : ℕ} {u : List ℕ} → w.place ≡ Waiting z → w.outer ≡ z ∷ u

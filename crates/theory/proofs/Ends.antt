@@ -3,7 +3,7 @@
 use Prim.Native.Nat.{ℕ, zero, suc, ◌+◌, ◌-◌, ◌<◌, ◌≤◌}
 use mathlib.Core.Path.{◌≡◌, refl, sym, ap, subst, ◌∙◌}
 use mathlib.Core.Bool.{true, false}
-use mathlib.Core.List.{List, ◌∷◌, ◌++◌, append_assoc}
+use mathlib.Core.List.{List, [], ◌∷◌, ◌++◌, append_assoc}
 use mathlib.Core.Logic.{◌⊎◌, inl, inr, ◌≢◌, ⊎_elim}
 use native.Mathlib.Omega.{arith}
 use native.Mathlib.Nat.{le_refl, le_trans, zero-add, suc-add}
@@ -82,6 +82,7 @@ module _ (g : Graph) (sound : Sound g) (P : ℕ) (some : 0 < P) where
   comes_up : (r : Result) (l : List ℕ) → Named P l → Stands g P r → (run_from g P r l).answer ≡ undecided
       → (p : ℕ) → CanMove g r.machine p → Mem p l → due (run_from g P r l) < due r
   unfolding run_from
+  comes_up r [] n st e p c on = elim on [ ]
   comes_up r (q ∷ l) n st e p c on = go (either (changes (turn g q r.machine).move)) on (comes_up (step g P r q) l named st' e p)
     where
       named : Named P l

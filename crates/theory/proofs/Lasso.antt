@@ -37,6 +37,7 @@ down_to_top c x l = go (eqb x c)
 
 pub down_to_last : (c : ℕ) (l : List ℕ) → Mem c l → (k : List ℕ) × (down_to c l ≡ k ++ (c ∷ []))
 unfolding down_to
+down_to_last c [] m = elim m [ ]
 down_to_last c (x ∷ l) m = go (either (eqb x c)) m (down_to_last c l)
   where
     go : (eqb x c ≡ true) ⊎ (eqb x c ≡ false) → Mem c (x ∷ l) → (Mem c l → (k : List ℕ) × (down_to c l ≡ k ++ (c ∷ [])))

@@ -1,0 +1,56 @@
+-- `stamp_all` meets its contract. What is left of the targets is unseen exactly if the whole does not repeat: seen is what has the stamp.
+use Prim.Native.Nat.{◌-◌, ◌<◌}
+use mathlib.Core.Path.{sym, ◌∙◌}
+use native.Mathlib.Omega.{arith}
+use lib.ListN.{length, get_or, length-set}
+use borrow.Author.Rules.{rules}
+use borrow.Author.Tests.{eq-eqb, ne_eqb}
+use Rattle.graphs.proofs.Stamps.{stamped, unseen_repeats, unseen_hit, unseen_step, unseen_end, stamped_none, stamped_set, set_bound}
+use Rattle.graphs.proofs.checks.stamp_all.Goals as goal
+
+pub loop-i-init : goal.loop-i-init
+loop-i-init c = record {
+  inside = search rules;
+  long = search rules;
+  rest = unseen_repeats _ _ (stamped_none _ _ c.requires.fresh);
+  low = λ x. omega (arith, c.requires.fresh x);
+}
+
+pub offset_bounds-table-t : goal.offset_bounds-table-t
+offset_bounds-table-t c = omega (arith, c.requires.inside c.loop-i.i c.loop-i-test.true, c.wide-t.ensures, c.well_formed.0)
+
+pub bounds-table-t : goal.bounds-table-t
+bounds-table-t c = omega (arith, c.requires.inside c.loop-i.i c.loop-i-test.true, c.wide-t.ensures, c.loop-i.invariant.long)
+
+pub returns-then-table-t : goal.returns-then-table-t
+unfolding stamped
+returns-then-table-t c = record {
+  answer = sym (unseen_hit _ _ c.loop-i.i c.loop-i-test.true (eq-eqb _ _ (rw c.wide-t.ensures at c.if-table-t.true))) ∙ c.loop-i.invariant.rest;
+  used = c.loop-i.invariant.low;
+}
+
+pub offset_bounds-table-t-in-loop-i : goal.offset_bounds-table-t-in-loop-i
+offset_bounds-table-t-in-loop-i c = omega (arith, c.requires.inside c.loop-i.i c.loop-i-test.true, c.wide-t.ensures, c.well_formed.0)
+
+pub bounds-table-t-in-loop-i : goal.bounds-table-t-in-loop-i
+bounds-table-t-in-loop-i c = omega (arith, c.requires.inside c.loop-i.i c.loop-i-test.true, c.wide-t.ensures, c.loop-i.invariant.long)
+
+pub loop-i-preserved : goal.loop-i-preserved
+unfolding stamped
+loop-i-preserved c =
+    let t = get_or c.args.targets.now c.loop-i.i 0 in
+    let here : t < length c.loop-i.table = omega (arith, c.requires.inside c.loop-i.i c.loop-i-test.true, c.loop-i.invariant.long) in
+    record {
+      inside = search rules;
+      long = simp length-set c.loop-i.invariant.long;
+      rest =
+          rw (c.wide-t.ensures, stamped_set c.loop-i.table c.args.stamp t here)
+          (sym (unseen_step _ _ c.loop-i.i c.loop-i-test.true (ne_eqb _ _ (rw c.wide-t.ensures at c.if-table-t.false))) ∙ c.loop-i.invariant.rest);
+      low = set_bound c.loop-i.table c.wide-t.result c.args.stamp _ (omega arith) c.loop-i.invariant.low;
+    }
+
+pub returns : goal.returns
+returns c = record {
+  answer = sym (unseen_end _ _ c.loop-i.i c.loop-i-test.false) ∙ c.loop-i.invariant.rest;
+  used = c.loop-i.invariant.low;
+}
