@@ -1,0 +1,15 @@
+-- `join` meets its contract: `take`, and three stores.
+use lib.ListN.{length-set}
+use native.Mathlib.Omega.{arith}
+use Rattle.stretch.specs.Stores.{join_words}
+use Rattle.stretch.proofs.join.Goals as goal
+
+pub bounds-t-n-2 : goal.bounds-t-n-2
+bounds-t-n-2 c = simp length-set (omega arith)
+
+pub bounds-t-n-3 : goal.bounds-t-n-3
+bounds-t-n-3 c = simp length-set (omega arith)
+
+pub returns : goal.returns
+unfolding join_words
+returns c = rw (c.take.ensures, c.wide.ensures, c.wide-2.ensures)
