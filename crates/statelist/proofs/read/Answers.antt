@@ -1,0 +1,31 @@
+-- `read` meets its contract: too long, a graph, or refused and cleared.
+use mathlib.Core.Path.{sym, ap, ◌∙◌}
+use Rattle.text.specs.Lists.{zeros}
+use Rattle.statelist.proofs.Ends.{comes_long, comes_graph, comes_cleared}
+use Rattle.statelist.proofs.read.Goals as goal
+
+pub returns-then-text-gt-MOST_TEXT : goal.returns-then-text-gt-MOST_TEXT
+returns-then-text-gt-MOST_TEXT c = let cleared = c.clear_all.ensures in rw (cleared.0, cleared.1, cleared.2, cleared.3) (comes_long _ _ _ _ _ c.if-text-gt-MOST_TEXT.true)
+
+pub fill_all-reading-requires : goal.fill_all-reading-requires
+fill_all-reading-requires c =
+    let cleared = c.clear_all.ensures in (
+      c.if-text-gt-MOST_TEXT.false,
+      cleared.0 ∙ ap zeros (sym c.offsets-1.given),
+      cleared.1 ∙ ap zeros (sym c.targets-1.given),
+      cleared.2 ∙ ap zeros (sym c.flags-1.given),
+      cleared.3 ∙ ap zeros (sym c.places-1.given),
+    )
+
+pub returns-in_default : goal.returns-in_default
+returns-in_default c =
+    comes_cleared _ _ _ _ _ _ _ _ _ c.if-text-gt-MOST_TEXT.false _ c.in_default.not-Graph c.fill_all-reading.ensures c.clear_all-in_default.ensures
+    c.offsets-2-1.given c.targets-2-1.given c.flags-2-1.given c.places-2-1.given
+    c.offsets-1.given c.targets-1.given c.flags-1.given c.places-1.given
+
+pub returns : goal.returns
+returns c =
+    let o = c.offsets-1.given in let t = c.targets-1.given in let f = c.flags-1.given in let p = c.places-1.given in let fills = rw (o, t, f, p, c.in-Graph.is) at c.fill_all-reading.ensures in
+    comes_graph _ _ _ _ _ _ _ _ _ c.if-text-gt-MOST_TEXT.false _ _
+    (c.offsets-2-1.given ∙ o) (c.targets-2-1.given ∙ t)
+    (c.flags-2-1.given ∙ f) (c.places-2-1.given ∙ p) fills

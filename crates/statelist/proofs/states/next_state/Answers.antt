@@ -1,0 +1,28 @@
+-- `next_state` meets its contract, a law for each refusal.
+use mathlib.Core.Path.{sym, ◌∙◌}
+use native.Mathlib.Omega.{arith}
+use Rattle.statelist.proofs.Declared.{stop_bad, stop_twice, stop_full}
+use Rattle.statelist.proofs.Here.{state_here}
+use Rattle.statelist.proofs.states.next_state.Goals as goal
+
+pub returns-in_default : goal.returns-in_default
+returns-in_default c = λ flags places t d. stop_bad d c.requires.1 c.requires.2 (sym c.state_line.ensures ∙ c.in_default.is) t
+
+pub returns-in_default-find : goal.returns-in_default-find
+returns-in_default-find c =
+    λ flags places t d.
+    let here = state_here (sym c.state_line.ensures ∙ c.in-State.is) in
+    stop_twice d here _ (sym c.find.ensures ∙ c.in_default-find.is) t
+
+pub returns-then-held-n : goal.returns-then-held-n
+returns-then-held-n c =
+    λ flags places t d.
+    let here = state_here (sym c.state_line.ensures ∙ c.in-State.is) in
+    stop_full d here (sym c.find.ensures ∙ c.in-Nothing.is) (omega (arith, c.if-held-n.true)) t
+
+pub returns : goal.returns
+returns c = record {
+  stands = sym c.state_line.ensures ∙ c.in-State.is;
+  new = sym c.find.ensures ∙ c.in-Nothing.is;
+  room = omega (arith, c.if-held-n.false);
+}
