@@ -1,8 +1,8 @@
 -- The turns that are asked for stand at the front of the second word.
 use Prim.Native.Nat.{ℕ, ◌≤◌}
 use mathlib.Core.Path.{◌≡◌, sym, subst}
-use mathlib.Core.Bool.{Bool, not}
-use mathlib.Core.List.{List, map}
+use mathlib.Core.Bool.{not}
+use mathlib.Core.List.{List}
 use lib.ListN.{length, length-map}
 use native.Mathlib.Omega.{arith}
 use Rattle.graphs.proofs.Tests.{cond_ind}

@@ -1,6 +1,6 @@
 -- Laws of six joined lists, of which the first five have n words each: a word is that of one of them, a store goes into one of them, and the second is
 -- replaced. A worker's stretch is such a list.
-use Prim.Native.Nat.{ℕ, suc, ◌+◌, ◌-◌, ◌*◌, ◌<◌}
+use Prim.Native.Nat.{ℕ, suc, ◌+◌, ◌*◌, ◌<◌}
 use mathlib.Core.Path.{◌≡◌, refl, ap, subst, ◌∙◌}
 use mathlib.Core.List.{List, [], ◌∷◌, ◌++◌}
 use lib.ListN.{length, get_or, set, take, drop, get_or-append}

@@ -10,7 +10,7 @@ use native.Mathlib.Nat.{add-zero, zero-add}
 use native.Mathlib.Numerals.{add-one}
 use native.Mathlib.Omega.{arith}
 use borrow.Author.Tests.{eqb-true, eq-eqb}
-use Rattle.graphs.specs.Lists.{tab, same}
+use Rattle.graphs.specs.Lists.{tab}
 use Rattle.graphs.proofs.Tests.{and_cases, clash, same?}
 use Rattle.graphs.proofs.Tab.{tab_more, tab_ext}
 use Rattle.graphs.proofs.Same.{eq_same, ne_same}

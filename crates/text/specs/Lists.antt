@@ -1,6 +1,6 @@
 -- The four lists and the answer that a reading gives: 01 "The reader fills four lent lists". A lent list is known by its length; what stood in it
 -- before does not count.
-use Rattle.std.specs.Prelude.{ℕ, zero, suc, ◌+◌, ◌-◌, ◌/◌, min, cond, List, [], ◌∷◌, ◌++◌, map, eqb, length, replicate}
+use Rattle.std.specs.Prelude.{ℕ, zero, suc, ◌-◌, ◌/◌, min, cond, List, [], ◌∷◌, ◌++◌, map, eqb, length, replicate}
 use Rattle.graphs.specs.Lists.{tab}
 use Rattle.graphs.specs.Words.{most_states, most_transitions}
 use Rattle.text.specs.Text.{State, Transition, Rooms, Meaning, reads, refused, meaning}

@@ -1,6 +1,6 @@
 -- What a run promises, for all turn lists, all numbers of workers from 1 on, all graphs and all orders of looking (`Sound`). The words in quotes
 -- are those of the demands; a machine that turns can lead to is that of `run g P l`. At the end, the same of the words of a graph.
-use Prim.Native.Nat.{ℕ, ◌+◌, ◌-◌, ◌*◌, ◌<◌, ◌≤◌}
+use Prim.Native.Nat.{ℕ, ◌+◌, ◌*◌, ◌<◌, ◌≤◌}
 use mathlib.Core.Path.{◌≡◌, sym, ap, subst, ◌∙◌}
 use mathlib.Core.Bool.{true}
 use mathlib.Core.List.{List, [], ◌∷◌, ◌++◌}

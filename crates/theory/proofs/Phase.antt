@@ -2,7 +2,7 @@
 use Prim.Native.Nat.{ℕ}
 use mathlib.Core.Path.{◌≡◌, subst, sym, ◌∙◌}
 use mathlib.Core.Bool.{Bool, true}
-use mathlib.Core.Logic.{◌⊎◌, ⊎_map}
+use mathlib.Core.Logic.{⊎_map}
 use mathlib.Core.List.{List, ◌∷◌}
 use Rattle.graphs.specs.Graph.{Graph}
 use Rattle.moves.specs.declared.Place.{Place}

@@ -15,7 +15,7 @@ two : (c : Joined-word-eq101)
 two c =
     let first = get_or c.args.word.now 0 0 in
     elim c.if-word-eq101.branch [
-      then-word-eq101 w ↦ rw (eq-eqb first 101 w.if-word-eq101.true) w.value-is
+      | then-word-eq101 w ↦ rw (eq-eqb first 101 w.if-word-eq101.true) w.value-is
       | else-word-eq101 w ↦ let no = ne_eqb first 101 w.if-word-eq101.false in rw no (w.value-is ∙ no)
     ]
 

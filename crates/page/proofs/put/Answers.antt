@@ -1,5 +1,4 @@
 -- `put` writes the bytes: after i turns of its loop, the first i.
-use Prim.Native.Nat.{◌-◌}
 use mathlib.Core.Path.{refl, ap, ◌∙◌}
 use lib.ListN.{length-set}
 use lib.Seq.{take_all}

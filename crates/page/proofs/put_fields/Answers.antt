@@ -1,5 +1,4 @@
 -- `put_fields` writes a field for each number: after i turns of its loop, the first i.
-use Prim.Native.Nat.{◌-◌}
 use mathlib.Core.Path.{refl, ap, ◌∙◌}
 use native.Mathlib.Omega.{arith}
 use Rattle.page.specs.Numbers.{field}

@@ -1,5 +1,4 @@
 -- `find` meets its contract. It goes along the chain of the pair's bucket, from the last number to the first.
-use Prim.Native.Nat.{◌-◌}
 use Rattle.pairs.proofs.Chain.{Way}
 use Rattle.pairs.proofs.find.Given as goal
 

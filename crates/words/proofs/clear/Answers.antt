@@ -1,5 +1,4 @@
 -- `clear` meets its contract: the words below i are 0.
-use Prim.Native.Nat.{◌-◌}
 use mathlib.Core.Path.{sym}
 use native.Mathlib.Omega.{arith}
 use lib.ListN.{length-set}

@@ -1,5 +1,4 @@
 -- `count_of` meets its contract: n is the count of the first i digits.
-use Prim.Native.Nat.{◌-◌}
 use mathlib.Core.Path.{◌≡◌, refl, sym}
 use native.Mathlib.Omega.{arith}
 use lib.ListN.{length}

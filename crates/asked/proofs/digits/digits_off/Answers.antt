@@ -1,5 +1,5 @@
 -- `digits_off` meets its contract: the first i digits are numbers, and the others are bytes still.
-use Prim.Native.Nat.{◌-◌, ◌<◌}
+use Prim.Native.Nat.{◌<◌}
 use mathlib.Core.Path.{sym, ◌∙◌}
 use native.Mathlib.Omega.{arith}
 use lib.ListN.{length, length-set}

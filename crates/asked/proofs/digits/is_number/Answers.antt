@@ -1,6 +1,4 @@
 -- `is_number` meets its contract. The bytes before i are digits.
-use Prim.Native.Nat.{◌-◌}
-use mathlib.Core.Bool.{true}
 use mathlib.Core.Path.{◌≡◌, refl, sym}
 use native.Mathlib.Omega.{arith}
 use lib.ListN.{length}
@@ -8,7 +6,6 @@ use lib.Seq.{take-length}
 use borrow.Author.Rules.{rules}
 use Rattle.graphs.specs.Lists.{all}
 use Rattle.graphs.proofs.Tests.{if_not, if_so}
-use Rattle.asked.specs.Digits.{is_digit}
 use Rattle.asked.proofs.Numbers.{digits_more, not_number, is_number_lem}
 use Rattle.asked.proofs.digits.is_number.Goals as goal
 

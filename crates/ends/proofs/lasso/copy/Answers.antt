@@ -1,5 +1,4 @@
 -- `copy` meets its contract: the words below i are copied.
-use Prim.Native.Nat.{◌-◌}
 use lib.ListN.{length-set}
 use borrow.Author.Rules.{rules}
 use Rattle.ends.proofs.Copied.{copied_more, copied_all}

@@ -1,6 +1,4 @@
 -- `all_below` meets its contract. The words before k are below the bound.
-use Prim.Native.Nat.{◌-◌}
-use mathlib.Core.Bool.{true}
 use mathlib.Core.Path.{◌≡◌, refl, sym}
 use native.Mathlib.Omega.{arith}
 use lib.ListN.{length, get_or}

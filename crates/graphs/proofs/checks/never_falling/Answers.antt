@@ -1,6 +1,5 @@
 -- `never_falling` meets its contract. The offsets up to s have not fallen.
-use Prim.Native.Nat.{◌+◌, ◌-◌}
-use mathlib.Core.Bool.{true}
+use Prim.Native.Nat.{◌+◌}
 use mathlib.Core.Path.{◌≡◌, refl, sym}
 use native.Mathlib.Omega.{arith}
 use lib.ListN.{get_or}

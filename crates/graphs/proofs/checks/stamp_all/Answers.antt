@@ -1,5 +1,5 @@
 -- `stamp_all` meets its contract. What is left of the targets is unseen exactly if the whole does not repeat: seen is what has the stamp.
-use Prim.Native.Nat.{◌-◌, ◌<◌}
+use Prim.Native.Nat.{◌<◌}
 use mathlib.Core.Path.{sym, ◌∙◌}
 use native.Mathlib.Omega.{arith}
 use lib.ListN.{length, get_or, length-set}

@@ -1,5 +1,5 @@
 -- `part_at` meets its contract. The bytes so far are a label's, and `word` is their word; what is left to count is the run from there on.
-use Prim.Native.Nat.{◌+◌, ◌-◌}
+use Prim.Native.Nat.{◌+◌}
 use mathlib.Core.Bool.{false}
 use mathlib.Core.Path.{◌≡◌}
 use native.Mathlib.Omega.{arith}

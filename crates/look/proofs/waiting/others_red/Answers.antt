@@ -1,13 +1,11 @@
 -- `others_red` meets its contract. The states before i pass.
-use Prim.Native.Nat.{◌-◌}
-use mathlib.Core.Bool.{true}
 use mathlib.Core.Path.{◌≡◌, refl, sym, ◌∙◌}
 use native.Mathlib.Omega.{arith}
 use lib.ListN.{length}
 use borrow.Author.Rules.{rules}
 use Rattle.graphs.specs.Lists.{every}
 use Rattle.graphs.proofs.Every.{every_more, every_not}
-use Rattle.look.specs.Look.{passes, others_red_in}
+use Rattle.look.specs.Look.{others_red_in}
 use Rattle.look.proofs.waiting.others_red.Goals as goal
 
 pub loop-i-init : goal.loop-i-init

@@ -1,5 +1,4 @@
 -- `read_states` meets its contract. What is left of the text means, with the states so far, what the whole text means.
-use Prim.Native.Nat.{◌-◌}
 use mathlib.Core.Path.{sym, ◌∙◌}
 use native.Mathlib.Omega.{arith}
 use lib.ListN.{get_or}

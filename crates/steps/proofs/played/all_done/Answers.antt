@@ -1,6 +1,4 @@
 -- `all_done` meets its contract: the workers before q are done.
-use Prim.Native.Nat.{◌-◌}
-use mathlib.Core.Bool.{true}
 use mathlib.Core.Path.{◌≡◌, refl, sym}
 use native.Mathlib.Omega.{arith}
 use borrow.Author.Rules.{rules}

@@ -1,5 +1,4 @@
 -- `dye` meets its contract: before turn i the states of R below i are red.
-use Prim.Native.Nat.{◌-◌}
 use mathlib.Core.Path.{◌≡◌}
 use lib.ListN.{length-set}
 use native.Mathlib.Numerals.{add-one}
