@@ -43,6 +43,7 @@ fn step_in_turns(
 }
 
 // All turns of the list that are left.
+#[tactic(auto, using(crate::proofs::Looped::asks))]
 pub fn over_turns(
     room: &mut [u16],
     tally: &mut Tally,
@@ -83,6 +84,7 @@ fn step_in_round(
 }
 
 // Rounds of turns 0, 1, .., P − 1, as long as there is no answer.
+#[tactic(auto, using(crate::proofs::Looped::asks))]
 pub fn over_rounds(
     room: &mut [u16],
     tally: &mut Tally,
