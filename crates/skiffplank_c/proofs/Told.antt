@@ -1,4 +1,4 @@
--- What is told fits 32 bits. For the two functions that hold a tally: the answer, with the words that a run leaves, is what comes of the call.
+-- What is told fits 32 bits.
 use Prim.Native.Nat.{ℕ}
 use mathlib.Core.Path.{◌≡◌, refl, sym, ap}
 use mathlib.Core.List.{List}
@@ -7,14 +7,13 @@ use Rattle.graphs.proofs.Words.{words_are}
 use Rattle.moves.specs.declared.Tally.{Tally}
 use Rattle.ends.specs.declared.Outcome.{Outcome}
 use Rattle.ends.specs.Told.{Told, told_cycle, told_none, told_undecided, told_refusal, told}
-use Rattle.search.specs.Outcomes.{Lent, lent, outcome, outcome_to_end}
+use Rattle.search.specs.Outcomes.{lent, outcome, outcome_to_end}
 use Rattle.search.proofs.Promises.{Call, run_is_call, end_is_call, refuses, not_refused, cycle_few}
 use Rattle.text.specs.Lists as text
 use Rattle.text.proofs.Told.{graph_low, refusal_low}
 use Rattle.statelist.specs.declared.Reading.{Reading}
 use Rattle.statelist.specs.Told.{comes, told as told_reading}
-use Rattle.skiffplank_c.specs.declared.RunAnswer.{RunAnswer}
-use Rattle.skiffplank_c.specs.Answers.{run_answer, run_call, run_call_of, ReadFits, RunFits}
+use Rattle.skiffplank_c.specs.Answers.{ReadFits, RunFits}
 
 pub read_fits : (o t f p : ℕ) (bytes : List ℕ) (r : Reading) (offsets targets flags places : List ℕ)
     → comes r offsets targets flags places ≡ text.outcome o t f p bytes → ReadFits (told_reading r)
@@ -39,25 +38,13 @@ call_fits {offsets} {targets} {flags} {r} call = go (told r) refl
     go (told_undecided used) q = tt
     go (told_refusal number line) q = tt
 
-told_so : (out : Lent) (r : Outcome) (room lasso : List ℕ) (tally : Tally) → lent r room lasso tally ≡ out
-    → (answer : RunAnswer) → answer ≡ run_answer (told r) → run_call_of answer room lasso tally ≡ run_call out
-told_so out r room lasso tally e answer is = rw is (ap run_call e)
-
 -- `workers` as a count of words is P
 module _ (offsets targets flags turns : List ℕ) (workers : ℕ) (room lasso : List ℕ) (tally : Tally) (P : ℕ) (whole : P ≡ workers) (r : Outcome)
     (room' lasso' : List ℕ) (tally' : Tally) (left : lent r room' lasso' tally' ≡ outcome turns offsets targets flags P room lasso tally) where
   pub run_fits : RunFits (told r)
   run_fits = call_fits (run_is_call turns offsets targets flags P room lasso tally r room' lasso' tally' left)
 
-  pub run_told : (answer : RunAnswer) → answer ≡ run_answer (told r)
-      → run_call_of answer room' lasso' tally' ≡ run_call (outcome turns offsets targets flags workers room lasso tally)
-  run_told answer is = told_so (outcome turns offsets targets flags workers room lasso tally) r room' lasso' tally' (rw whole at left) answer is
-
 module _ (offsets targets flags : List ℕ) (workers : ℕ) (room lasso : List ℕ) (tally : Tally) (P : ℕ) (whole : P ≡ workers) (r : Outcome)
     (room' lasso' : List ℕ) (tally' : Tally) (left : lent r room' lasso' tally' ≡ outcome_to_end offsets targets flags P room lasso tally) where
   pub end_fits : RunFits (told r)
   end_fits = call_fits (end_is_call offsets targets flags P room lasso tally r room' lasso' tally' left)
-
-  pub end_told : (answer : RunAnswer) → answer ≡ run_answer (told r)
-      → run_call_of answer room' lasso' tally' ≡ run_call (outcome_to_end offsets targets flags workers room lasso tally)
-  end_told answer is = told_so (outcome_to_end offsets targets flags workers room lasso tally) r room' lasso' tally' (rw whole at left) answer is
