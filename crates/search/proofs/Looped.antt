@@ -1,9 +1,9 @@
 -- The turns that are left, one after the other: `Along` is where the loop stands, and `asks` what it gives to the next turn.
-use Prim.Native.Nat.{ℕ, ◌<◌}
+use Prim.Native.Nat.{ℕ}
 use mathlib.Core.Path.{◌≡◌}
 use mathlib.Core.Bool.{true, false}
 use mathlib.Core.List.{List}
-use lib.ListN.{length, take}
+use lib.ListN.{take}
 use native.Mathlib.Omega.{arith}
 use Rattle.graphs.specs.Words.{graph_of}
 use Rattle.moves.specs.declared.Tally.{Tally}

@@ -1,6 +1,6 @@
 -- The parts of a run together: what the loop over the turns asks after the beginning, what the end asks after the loop, and that all of it leaves
 -- what 01 says. Said of a list of turns, which for the run to the end is that of all its rounds.
-use Prim.Native.Nat.{ℕ, ◌+◌, ◌≤◌}
+use Prim.Native.Nat.{ℕ, ◌≤◌}
 use mathlib.Core.Path.{◌≡◌, refl, sym, ap, ◌∙◌}
 use mathlib.Core.Bool.{true, false}
 use mathlib.Core.List.{List, ◌++◌}
