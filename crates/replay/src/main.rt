@@ -3,18 +3,20 @@
 #![tactic(auto)]
 
 ghost use Rattle.std.specs.Prelude.{◌≡◌, length};
-ghost use Rattle.io.specs.Counts.{IsPrefixLen};
+ghost use Rattle.std.specs.Counts.{IsPrefixLen};
 
+use anyhow::{Result, anyhow};
 use asked::{Asked, ask};
 use input::Input;
 use programs::replay_page;
+use std::env::{Env, FillError};
 
-fn main() {
+fn main(rt: HostRuntime) -> Result<()> {
     let mut workers = word_room();
-    let w = word(1, &mut workers);
+    let w = word(&rt, 1, &mut workers);
     let mut turns = word_room();
-    let t = word(2, &mut turns);
-    answer(&workers[..w], &mut turns[..t]);
+    let t = word(&rt, 2, &mut turns);
+    answer(&rt, &workers[..w], &mut turns[..t])
 }
 
 // As many bytes as Linux lets a word have.
@@ -25,16 +27,28 @@ fn word_room() -> [u8; 131072]
 }
 
 // The word of this number; no byte if there are not just two words.
-fn word(i: usize, buffer: &mut [u8]) -> usize
+fn word(rt: &impl Env, i: usize, buffer: &mut [u8]) -> usize
     ensures { IsPrefixLen result buffer.new }
 {
-    if os::arg_count() != 3 {
+    if !has_word(rt, 2) || has_word(rt, 3) {
         return 0;
     }
-    os::arg(i, buffer)
+    match rt.arg(i, buffer) {
+        Ok(n) => n,
+        Err(_) => 0,
+    }
 }
 
-fn answer(workers: &[u8], turns: &mut [u8]) {
+// Whether there is a word of this number.
+fn has_word(rt: &impl Env, i: usize) -> bool {
+    match rt.arg(i, &mut []) {
+        Ok(_) => true,
+        Err(FillError::TooLong) => true,
+        Err(FillError::NotPresent) => false,
+    }
+}
+
+fn answer(rt: &HostRuntime, workers: &[u8], turns: &mut [u8]) -> Result<()> {
     let asked = ask(workers, turns);
     let Asked::Run {
         workers,
@@ -42,22 +56,20 @@ fn answer(workers: &[u8], turns: &mut [u8]) {
         turns: count,
     } = asked
     else {
-        print(b"usage\treplay WORKERS TURNS\n");
-        return;
+        return print(rt, b"usage\treplay WORKERS TURNS\n");
     };
-    replay(workers, ending, &turns[..count]);
+    replay(rt, workers, ending, &turns[..count])
 }
 
-fn replay(workers: usize, ending: bool, turns: &[u8]) {
+fn replay(rt: &HostRuntime, workers: usize, ending: bool, turns: &[u8]) -> Result<()> {
     let mut text = blank();
-    let got = input::all(0, &mut text);
-    let Input::Bytes(n) = got else {
-        os::fail(b"replay: standard input");
-        return;
+    let n = match input::all(&mut rt.stdin(), &mut text) {
+        Input::Bytes(n) => n,
+        Input::Failed(e) => return Err(anyhow!("replay: standard input: {e}")),
     };
     let mut page = [0u8; 196608];
     let k = replay_page(&mut page, workers, ending, turns, &text[..n]);
-    print(&page[..k]);
+    print(rt, &page[..k])
 }
 
 // One byte more than a text has at most.
@@ -67,8 +79,7 @@ fn blank() -> [u8; 1048577]
     [0; 1048577]
 }
 
-fn print(bytes: &[u8]) {
-    if !io::write_all(1, bytes) {
-        os::fail(b"replay: standard output");
-    }
+fn print(rt: &impl Print, bytes: &[u8]) -> Result<()> {
+    rt.write_all(bytes)
+        .map_err(|e| anyhow!("replay: standard output: {e}"))
 }

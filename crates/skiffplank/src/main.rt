@@ -1,19 +1,18 @@
 // 01 "The program": reads state-list text from standard input, looks for a loop through a mark, and prints what it finds.
 #![tactic(auto)]
 
+use anyhow::{Result, anyhow};
 use input::Input;
 use programs::search_page;
 
-fn main() {
+fn main(rt: HostRuntime) -> Result<()> {
     let mut text = [0u8; 32769];
-    let got = input::all(0, &mut text);
-    let Input::Bytes(n) = got else {
-        os::fail(b"skiffplank: standard input");
-        return;
+    let n = match input::all(&mut rt.stdin(), &mut text) {
+        Input::Bytes(n) => n,
+        Input::Failed(e) => return Err(anyhow!("skiffplank: standard input: {e}")),
     };
     let mut page = [0u8; 16384];
     let k = search_page(&mut page, &text[..n]);
-    if !io::write_all(1, &page[..k]) {
-        os::fail(b"skiffplank: standard output");
-    }
+    rt.write_all(&page[..k])
+        .map_err(|e| anyhow!("skiffplank: standard output: {e}"))
 }
