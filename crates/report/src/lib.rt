@@ -20,6 +20,7 @@ use refusals::{Refusal, of_reading, of_run};
 use statelist::Reading;
 use workers::put_workers;
 
+#[tactic(auto, unfolding(crate::specs::Report::refused_line, page::specs::Words::bytes))]
 pub fn put_refusal(page: &mut [u8], at: usize, number: u64, line: u64) -> usize
     requires { Holds page.old at (refused_line number line) }
     ensures { written result page.new ≡ puts page.old at (refused_line number line) }
@@ -111,6 +112,7 @@ fn put_answer(page: &mut [u8], at: usize, answer: &[u8], tally: Tally) -> usize
     put_tally(page, end, tally)
 }
 
+#[tactic(auto, unfolding(crate::specs::Report::tally_line, page::specs::Words::bytes))]
 fn put_tally(page: &mut [u8], at: usize, tally: Tally) -> usize
     requires { Holds page.old at (tally_line tally) }
     ensures { written result page.new ≡ puts page.old at (tally_line tally) }

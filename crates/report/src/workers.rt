@@ -57,6 +57,7 @@ fn put_worker(page: &mut [u8], at: usize, text: &[u8], places: &[u32], q: usize,
     put(page, e, b"\n")
 }
 
+#[tactic(auto, unfolding(page::specs::Words::bytes))]
 fn put_place(page: &mut [u8], at: usize, place: Place) -> usize
     requires { Holds page.old at (place_field place) }
     ensures { written result page.new ≡ puts page.old at (place_field place) }
@@ -70,6 +71,7 @@ fn put_place(page: &mut [u8], at: usize, place: Place) -> usize
     }
 }
 
+#[tactic(auto, using(page::proofs::Written::puts_none))]
 fn put_seed(page: &mut [u8], at: usize, text: &[u8], places: &[u32], place: Place) -> usize
     requires { Seeded text.now places.now place
         × Holds page.old at (seed_field (label_at text.now places.now) place) }
