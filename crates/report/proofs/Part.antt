@@ -9,6 +9,10 @@ use Rattle.graphs.proofs.Member.{drop_mem}
 use Rattle.text.specs.Labels.{label_at}
 use Rattle.report.specs.Shows.{Labelled, Labels}
 
+-- a part is as long as its end is past its start
+pub part_long : (start long : ℕ) → start + long - start ≡ long
+part_long start long = omega arith
+
 module _ (text places : List ℕ) {s i : ℕ} (e : i ≡ s) where
   abbrev starts : ℕ
   starts = get_or places (2 * i) 0
@@ -18,9 +22,7 @@ module _ (text places : List ℕ) {s i : ℕ} (e : i ≡ s) where
 
   pub part_label : take (starts + long - starts) (drop starts text) ≡ label_at text places s
   unfolding label_at
-  part_label =
-      let count : starts + long - starts ≡ long = omega arith in
-      rw (count, e)
+  part_label = rw (part_long, e)
 
   pub part_inside : Labelled text places s → starts + long ≤ length text
   part_inside labelled = (subst (Labelled text places) (sym e) labelled).within

@@ -8,6 +8,7 @@ ghost use Rattle.report.specs.Shows.{Labelled, Labels};
 use page::put;
 use words::wide;
 
+#[tactic(auto, using(crate::proofs::Part::part_label))]
 pub fn put_label(page: &mut [u8], at: usize, text: &[u8], places: &[u32], s: u16) -> usize
     requires { Labelled text.now places.now s × Holds page.old at (label_at text.now places.now s) }
     ensures { written result page.new
@@ -20,6 +21,7 @@ pub fn put_label(page: &mut [u8], at: usize, text: &[u8], places: &[u32], s: u16
 }
 
 // 01: "one line a state of stem and of loop, in order"
+#[tactic(auto, using(page::proofs::Pieces::pieces_none))]
 pub fn put_states(
     page: &mut [u8],
     at: usize,

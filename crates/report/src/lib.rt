@@ -29,6 +29,7 @@ pub fn put_refusal(page: &mut [u8], at: usize, number: u64, line: u64) -> usize
 }
 
 // The refusal that a reading came to; nothing for a graph.
+#[tactic(auto, using(page::proofs::Written::puts_none, refusals::proofs::Numbers::reading_graph))]
 pub fn put_reading(page: &mut [u8], at: usize, reading: Reading) -> usize
     requires { Holds page.old at (reading_line (told_reading reading)) }
     ensures { written result page.new ≡ puts page.old at (reading_line (told_reading reading)) }
@@ -48,6 +49,7 @@ fn put_refused(page: &mut [u8], at: usize, refusal: Refusal) -> usize
 }
 
 // What a run came to: the answer with stem and loop, and the tally; or the refusal.
+#[tactic(auto, unfolding(page::specs::Words::bytes))]
 pub fn put_run(
     page: &mut [u8],
     at: usize,
@@ -126,6 +128,7 @@ fn put_tally(page: &mut [u8], at: usize, tally: Tally) -> usize
 }
 
 // What `replay` adds to an answer: the turns used, and each of p workers; nothing to a refusal. The room is the form of a machine of n states.
+#[tactic(auto, using(page::proofs::Written::puts_none, refusals::proofs::Numbers::run_refusal))]
 pub fn put_end(
     page: &mut [u8],
     at: usize,

@@ -11,6 +11,7 @@ use page::{put, put_fields};
 use stretch::{Own, own_in};
 
 // The workers below p. The room is the form of a machine of n states.
+#[tactic(auto, using(page::proofs::Pieces::pieces_none, crate::proofs::Below::below_all))]
 pub fn put_workers(
     page: &mut [u8],
     at: usize,

@@ -4,10 +4,9 @@ use Rattle.ends.specs.declared.Outcome.{Outcome}
 use Rattle.ends.specs.Told.{told}
 use Rattle.text.specs.Labels.{label_at}
 use Rattle.refusals.specs.Refusals.{of_run}
-use Rattle.refusals.proofs.Numbers.{run_refusal}
 use Rattle.page.specs.Words.{bytes}
 use Rattle.page.specs.Page.{Holds}
-use Rattle.page.proofs.Written.{puts_none, holds_first, holds_rest, then}
+use Rattle.page.proofs.Written.{holds_first, holds_rest, then}
 use Rattle.report.specs.Report.{used_of, used_lines, end_lines}
 use Rattle.report.specs.Shows.{ShowsWorkers, ShowsEnd}
 use Rattle.report.proofs.Answered.{answer_end}
@@ -22,11 +21,6 @@ ended : {page text places room : List ℕ} {at n p : ℕ} (r : Outcome) → (of_
 ended {page} {text} {places} {room} {at} {n} {p} r is asked =
     let end = answer_end text places room n p r is in
     (end.0, end.1 asked.0, rw end.0 at asked.1)
-
-pub returns-then-of_run-ne0 : goal.returns-then-of_run-ne0
-returns-then-of_run-ne0 c =
-    let some = rw c.of_run.ensures at c.if-of_run-ne0.true in
-    rw (run_refusal (told c.args.outcome) some) (puts_none _ _)
 
 pub put_numbers-end-requires : goal.put_numbers-end-requires
 unfolding used_lines bytes

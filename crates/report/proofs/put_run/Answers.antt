@@ -1,29 +1,20 @@
--- `put_run` writes what a run came to: one arm for each answer, and one for the refusals.
-use Rattle.std.proofs.Common.{◌≡◌, ℕ, ◌+◌, ◌-◌, arith}
-use Rattle.page.specs.Words.{bytes}
+-- `put_run`: the loop is cut out of the lasso room up to its end, which is as far past the stem as the loop is long.
+use Rattle.std.proofs.Common.{take, drop, sym, subst}
+use Rattle.text.specs.Labels.{label_at}
+use Rattle.page.specs.Page.{Holds}
+use Rattle.report.specs.Report.{cycle_lines}
+use Rattle.report.specs.Shows.{Labels}
+use Rattle.report.proofs.Part.{part_long}
 use Rattle.report.proofs.put_run.Goals as goal
-
--- the loop's end less its start
-count : (stem loop : ℕ) → stem + loop - stem ≡ loop
-count stem loop = omega arith
 
 pub put_cycle-requires : goal.put_cycle-requires
 put_cycle-requires c =
-    let asked = rw c.in-Cycle.is at c.requires in
-    rw count (asked.0.1, asked.0.2, asked.1)
-
-pub put_answer-requires : goal.put_answer-requires
-unfolding bytes
-put_answer-requires c = rw c.in-None.is at c.requires.1
-
-pub put_answer-requires-in-Undecided : goal.put_answer-requires-in-Undecided
-unfolding bytes
-put_answer-requires-in-Undecided c = rw c.in-Undecided.is at c.requires.1
-
-pub returns-in-None : goal.returns-in-None
-unfolding bytes
-returns-in-None c = rw c.in-None.is c.put_answer.ensures
-
-pub returns-in-Undecided : goal.returns-in-Undecided
-unfolding bytes
-returns-in-Undecided c = rw c.in-Undecided.is c.put_answer-in-Undecided.ensures
+    let args = c.args in
+    let stem = take c.in-Cycle.stem args.lasso.now in
+    let rest = drop c.in-Cycle.stem args.lasso.now in
+    let long = sym (part_long c.in-Cycle.stem c.in-Cycle.loop_) in
+    let asked = rw c.in-Cycle.is at c.requires in (
+      asked.0.1,
+      subst (λ k. Labels args.text.now args.places.now (take k rest)) long asked.0.2,
+      subst (λ k. Holds args.page.now args.at (cycle_lines (label_at args.text.now args.places.now) stem (take k rest) args.tally)) long asked.1,
+    )

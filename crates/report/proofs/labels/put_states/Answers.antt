@@ -1,15 +1,9 @@
 -- `put_states` writes a line for each state.
 use Rattle.std.proofs.Common.{arith}
-use Rattle.page.proofs.Pieces.{pieces_none, piece_holds, piece_more}
+use Rattle.page.proofs.Pieces.{piece_holds, piece_more}
 use Rattle.report.proofs.Part.{labelled_at}
 use Rattle.report.proofs.labels.put_states.Invariants.{line}
 use Rattle.report.proofs.labels.put_states.Goals as goal
-
-pub loop-i-init : goal.loop-i-init
-loop-i-init c = record {
-  counted = omega arith;
-  wrote = pieces_none (line c.args.word.now c.args.text.now c.args.places.now) _ _ c.args.states.now;
-}
 
 pub put_state-end-requires : goal.put_state-end-requires
 put_state-end-requires c = (
