@@ -1,6 +1,6 @@
 -- What the pages of `replay` say of the graph of a text, without rooms and words: they are the lines of the run on that graph, with the turns used and
 -- where each worker stands after the last move made.
-use Prim.Native.Nat.{ℕ, ◌+◌, ◌<◌}
+use Prim.Native.Nat.{ℕ, ◌<◌}
 use mathlib.Core.Path.{◌≡◌, refl, sym, ap, ◌∙◌}
 use mathlib.Core.Bool.{Bool, true, false, cond}
 use mathlib.Core.List.{List, [], ◌∷◌, ◌++◌, append-nil}

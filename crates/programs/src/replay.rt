@@ -82,6 +82,7 @@ fn put_replay(
     )
 }
 
+#[tactic(auto, unfolding(crate::specs::Replay::ran))]
 fn run(
     room: &mut [u16],
     lasso: &mut [u16],
@@ -103,6 +104,7 @@ fn run(
 }
 
 // 0 workers are the usual two in a run to the end.
+#[tactic(auto, unfolding(crate::specs::Replay::named))]
 fn workers_of(ending: bool, workers: usize) -> usize
     ensures { result ≡ named ending workers }
 {
