@@ -158,7 +158,7 @@ module _ (ending : Bool) (turns : List ℕ) (workers : ℕ) (text : List ℕ) wh
   pub replayed_refused : (number line : ℕ) → meaning (rooms_of 4097 16384 4096 8192) text ≡ refused number line
       → replayed ending turns workers text ≡ refused_line number line
   unfolding replayed reader.outcome
-  replayed_refused number line e =
+  replayed_refused k line e =
       ap (λ m. lines_of ending turns workers text (filled 4097 16384 4096 8192 m) (filled 4097 16384 4096 8192 m).tells) e
 
   module _ (seen : Seen) (means : meaning (rooms_of 4097 16384 4096 8192) text ≡ reads seen) where
