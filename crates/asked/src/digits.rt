@@ -2,6 +2,7 @@
 ghost use Rattle.std.specs.Prelude.{◌≡◌, true, map};
 ghost use Rattle.asked.specs.Digits.{Number, is_digit, is_number, digit_of, count_of, with_digit};
 
+#[tactic(auto, unfolding(graphs::specs::Lists::all))]
 pub fn is_number(word: &[u8]) -> bool
     ensures { result ≡ is_number word.now }
 {
@@ -15,6 +16,7 @@ pub fn is_number(word: &[u8]) -> bool
     0 < i
 }
 
+#[tactic(auto, unfolding(crate::specs::Digits::is_digit))]
 fn is_digit(b: u8) -> bool
     ensures { result ≡ is_digit b }
 {
@@ -22,6 +24,7 @@ fn is_digit(b: u8) -> bool
 }
 
 // 9 stands for every number above 8.
+#[tactic(auto, unfolding(crate::specs::Digits::count_of, crate::specs::Digits::value_from))]
 pub fn count_of(word: &[u8]) -> usize
     requires { Number word.now }
     ensures { result ≡ count_of word.now }

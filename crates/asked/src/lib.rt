@@ -20,6 +20,7 @@ pub enum Asked {
 }
 
 // Takes the two words. The digits of a turn list become the workers' numbers.
+#[tactic(auto, unfolding(crate::specs::Asked::asks))]
 pub fn ask(workers: &[u8], turns: &mut [u8]) -> Asked
     ensures { called result turns.new ≡ asks workers.now turns.old }
 {

@@ -18,6 +18,7 @@ fn copy(to: &mut [u16], from: &[u16])
 }
 
 // The place of x, looking down from the last word.
+#[tactic(auto, unfolding(crate::specs::Lasso::place_down))]
 fn place_down(words: &[u16], x: u16) -> usize
     ensures { result ≡ place_down (length words.now) x words.now }
 {

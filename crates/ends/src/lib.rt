@@ -55,6 +55,7 @@ fn begin(room: &mut [u16], n: usize, workers: usize, number: u16, s: Standing) -
 }
 
 // The beginning of a run over a turn list, and of the run to the end.
+#[tactic(auto, unfolding(crate::specs::Ends::begun_in))]
 pub fn prepare(
     room: &mut [u16],
     lasso: usize,
@@ -72,6 +73,7 @@ pub fn prepare(
     begin(room, flags.len(), workers, number, s)
 }
 
+#[tactic(auto, unfolding(crate::specs::Ends::begun_on))]
 pub fn prepare_to_end(
     room: &mut [u16],
     lasso: usize,
@@ -112,6 +114,7 @@ fn zeroes() -> Tally
     }
 }
 
+#[tactic(auto, unfolding(crate::specs::Ends::refused_by))]
 fn refused(number: u16) -> Outcome
     ensures { result ≡ refused_by number }
 {

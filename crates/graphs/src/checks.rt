@@ -6,6 +6,7 @@ ghost use Rattle.graphs.specs.Stamps.{Fit, Ready, Blank, Stamped};
 use words::wide;
 
 // 01: "N .. is 1 to 4,096; E .. is at most 16,384"
+#[tactic(auto, unfolding(crate::specs::Words::sizes_fit))]
 pub fn sizes_fit(n: usize, e: usize) -> bool
     ensures { result ≡ sizes_fit n e }
 {
@@ -19,6 +20,7 @@ pub fn sizes_fit(n: usize, e: usize) -> bool
 }
 
 // 01: "there are N+1 offsets, first 0, last E"
+#[tactic(auto, unfolding(crate::specs::Words::offsets_span))]
 pub fn offsets_span(offsets: &[u16], n: usize, e: usize) -> bool
     requires { n ≤ most_states }
     ensures { result ≡ offsets_span offsets.now n e }
@@ -33,6 +35,7 @@ pub fn offsets_span(offsets: &[u16], n: usize, e: usize) -> bool
 }
 
 // 01: "never falling"
+#[tactic(auto, unfolding(crate::specs::Lists::every, crate::specs::Words::never_falling))]
 pub fn never_falling(offsets: &[u16], n: usize) -> bool
     requires { length offsets.now ≡ n + 1 }
     ensures { result ≡ never_falling offsets.now n }
@@ -50,6 +53,7 @@ pub fn never_falling(offsets: &[u16], n: usize) -> bool
 }
 
 // 01: "every target is below N", "every flag is 0 or 1"
+#[tactic(auto, unfolding(crate::specs::Lists::every, crate::specs::Words::all_below))]
 pub fn all_below(words: &[u16], bound: usize) -> bool
     ensures { result ≡ all_below words.now bound }
 {
@@ -64,6 +68,7 @@ pub fn all_below(words: &[u16], bound: usize) -> bool
 }
 
 // 01: "no state has the same target twice". Each target is stamped in a table with its source, counted from 1.
+#[tactic(auto, unfolding(crate::specs::Lists::every, crate::specs::Words::none_twice))]
 pub fn none_twice(offsets: &[u16], targets: &[u16], n: usize) -> bool
     requires { Fit offsets.now targets.now n }
     ensures { result ≡ none_twice offsets.now targets.now n }
@@ -81,6 +86,7 @@ pub fn none_twice(offsets: &[u16], targets: &[u16], n: usize) -> bool
 }
 
 // Stamps the targets of the source s; false at a target that has the stamp already.
+#[tactic(auto, unfolding(crate::specs::Words::successors))]
 fn stamp_source(table: &mut [u16], offsets: &[u16], targets: &[u16], s: u16) -> bool
     requires { Ready table.old offsets.now targets.now s }
     ensures { Stamped table.new (successors offsets.now targets.now s) (s + 1) result }

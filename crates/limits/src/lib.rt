@@ -27,6 +27,7 @@ pub fn room_size(n: usize, workers: usize) -> usize
     2 * n + workers * (5 * n + 4)
 }
 
+#[tactic(auto, unfolding(graphs::specs::Lists::all))]
 fn turns_fit(turns: &[u8], workers: usize) -> bool
     ensures { result ≡ turns_fit turns.now workers }
 {
@@ -41,6 +42,7 @@ fn turns_fit(turns: &[u8], workers: usize) -> bool
 }
 
 // 9 to 12, which every run checks: 01's number, or 0.
+#[tactic(auto, unfolding(crate::specs::Refusals::refusal_of, graphs::specs::Lists::all))]
 pub fn refusal_to_end(
     room: usize,
     lasso: usize,
@@ -90,6 +92,7 @@ pub fn refusal(
 }
 
 // 01: "worker count 0 .. means the house's usual, two"
+#[tactic(auto, unfolding(crate::specs::Refusals::usual))]
 pub fn usual(workers: usize) -> usize
     ensures { result ≡ usual workers }
 {

@@ -78,6 +78,7 @@ pub fn state_line(kinds: &[u8], text: &[u8], at: usize) -> StateLine
 }
 
 // The transition that stands at a place of a text: `T→label→label` and a line feed.
+#[tactic(auto, unfolding(crate::specs::Found::label_of))]
 pub fn transition_line(kinds: &[u8], text: &[u8], at: usize) -> TransitionLine
     requires { (kinds.now ≡ kind_table) × (at ≤ 1048576) }
     ensures { result ≡ transition_found at (drop at text.now) }

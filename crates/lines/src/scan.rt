@@ -76,6 +76,7 @@ pub fn label_at(kinds: &[u8], text: &[u8], at: usize) -> Label
 }
 
 // The front of a line, which is its letter, a tab, a label and a tab; the next field starts at `after`.
+#[tactic(auto, unfolding(crate::specs::Found::label_of))]
 pub fn front_at(kinds: &[u8], text: &[u8], at: usize, letter: u8) -> Front
     requires { (kinds.now ≡ kind_table) × (at + 10 ≤ most_place) × (0 < letter) }
     ensures { result ≡ front_of at letter (drop at text.now) }

@@ -7,6 +7,7 @@ use moves::Move;
 use words::wide;
 
 // 01: "If it is neither cyan for p nor blue, it becomes cyan and goes on the stack."
+#[tactic(auto, unfolding(crate::specs::Look::outer_taken))]
 fn outer_taken(room: &[u16], a: usize, s: u16, x: u16) -> Move
     requires { (x < a) × (a + x < length room.now) }
     ensures { result ≡ outer_taken a s x room.now }
@@ -22,6 +23,7 @@ fn outer_taken(room: &[u16], a: usize, s: u16, x: u16) -> Move
 }
 
 // 01: "If not accepting, it .. leaves the stack .. If accepting, it becomes the seed"
+#[tactic(auto, unfolding(crate::specs::Look::outer_ended))]
 fn outer_ended(flags: &[u16], s: u16) -> Move
     requires { s < length flags.now }
     ensures { result ≡ outer_ended flags.now s }
@@ -34,6 +36,7 @@ fn outer_ended(flags: &[u16], s: u16) -> Move
 }
 
 // Moves 2 and 3.
+#[tactic(auto, unfolding(crate::specs::Look::outer_move))]
 pub fn outer_move(
     room: &[u16],
     offsets: &[u16],
@@ -56,6 +59,7 @@ pub fn outer_move(
 }
 
 // 01: "If cyan for p, the answer is "cycle". Else, if neither in R nor red, it joins R and the inner stack."
+#[tactic(auto, unfolding(crate::specs::Look::inner_taken))]
 fn inner_taken(room: &[u16], n: usize, a: usize, s: u16, x: u16) -> Move
     requires { (x < n) × (2 * n ≤ a) × (a + 2 * n ≤ length room.now) }
     ensures { result ≡ inner_taken n a s x room.now }
@@ -74,6 +78,7 @@ fn inner_taken(room: &[u16], n: usize, a: usize, s: u16, x: u16) -> Move
 }
 
 // Moves 4 and 5.
+#[tactic(auto, unfolding(crate::specs::Look::inner_move))]
 pub fn inner_move(
     room: &[u16],
     offsets: &[u16],

@@ -12,6 +12,7 @@ pub enum Next {
 }
 
 // 01: "starting at number p mod d and going round once": number k of that order, counted from 0.
+#[tactic(auto, unfolding(crate::specs::Successor::rotation))]
 fn rotated(p: usize, d: usize, k: usize) -> usize
     requires { (k < d) × (d ≤ 65535) }
     ensures { (result ≡ rotation p d k) × (result < d) }
@@ -24,6 +25,7 @@ fn rotated(p: usize, d: usize, k: usize) -> usize
 }
 
 // The successor of s after k of them are taken.
+#[tactic(auto, unfolding(crate::specs::Successor::successor_in))]
 pub fn successor(offsets: &[u16], targets: &[u16], p: usize, s: u16, k: u16) -> Next
     requires { Row offsets.now targets.now s }
     ensures { result ≡ successor_in offsets.now targets.now p s k }

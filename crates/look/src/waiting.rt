@@ -6,6 +6,7 @@ use moves::Move;
 use words::wide;
 
 // What is asked of one state: whether it is in R, accepting, the seed, red.
+#[tactic(auto, unfolding(crate::specs::Look::passes))]
 fn passes(held: u16, flag: u16, seed: bool, red: u16) -> bool
     ensures { result ≡ passes held flag seed red }
 {
@@ -21,6 +22,7 @@ fn passes(held: u16, flag: u16, seed: bool, red: u16) -> bool
     red == 1
 }
 
+#[tactic(auto, unfolding(crate::specs::Look::others_red_in, graphs::specs::Lists::every))]
 fn others_red(room: &[u16], flags: &[u16], a: usize, z: usize) -> bool
     requires { (2 * length flags.now ≤ a) × (a + 2 * length flags.now ≤ length room.now) }
     ensures { result ≡ others_red_in flags.now a z room.now }
@@ -37,6 +39,7 @@ fn others_red(room: &[u16], flags: &[u16], a: usize, z: usize) -> bool
     true
 }
 
+#[tactic(auto, unfolding(crate::specs::Look::waiting_move))]
 pub fn waiting_move(room: &[u16], flags: &[u16], a: usize, z: u16) -> Move
     requires { (2 * length flags.now ≤ a) × (a + 2 * length flags.now ≤ length room.now) }
     ensures { result ≡ waiting_move flags.now a z room.now }

@@ -36,6 +36,7 @@ pub fn put_fields(page: &mut [u8], at: usize, numbers: &[u64]) -> usize
     end
 }
 
+#[tactic(auto, unfolding(crate::specs::Numbers::field, crate::specs::Words::bytes))]
 fn put_field(page: &mut [u8], at: usize, n: u64) -> usize
     requires { Holds page.old at (field n) }
     ensures { written result page.new ≡ puts page.old at (field n) }
@@ -45,6 +46,7 @@ fn put_field(page: &mut [u8], at: usize, n: u64) -> usize
 }
 
 // A line: the word, the fields, and a line feed.
+#[tactic(auto, unfolding(crate::specs::Numbers::numbers_line, crate::specs::Words::bytes))]
 pub fn put_numbers(page: &mut [u8], at: usize, word: &[u8], numbers: &[u64]) -> usize
     requires { Holds page.old at (numbers_line word.now numbers.now) }
     ensures { written result page.new

@@ -2,6 +2,7 @@
 ghost use Rattle.std.specs.Prelude.{◌≡◌, ◌<◌, length};
 ghost use Rattle.pairs.specs.Pairs.{is_pair, bucket_of, buckets};
 
+#[tactic(auto, unfolding(crate::specs::Pairs::bucket_of))]
 pub fn bucket(a: usize, b: usize) -> usize
     ensures { (result ≡ bucket_of a b) × (result < buckets) }
 {
@@ -9,6 +10,7 @@ pub fn bucket(a: usize, b: usize) -> usize
 }
 
 // The pair of number i is a, b.
+#[tactic(auto, unfolding(crate::specs::Pairs::is_pair))]
 pub fn is_pair(first: &[usize], second: &[usize], i: usize, a: usize, b: usize) -> bool
     requires { (i < length first.now) × (i < length second.now) }
     ensures { result ≡ is_pair first.now second.now a b i }

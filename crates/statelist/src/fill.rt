@@ -17,6 +17,7 @@ use crate::transitions::read_transitions;
 use crate::went::Went;
 use lines::kind_table;
 
+#[tactic(auto, unfolding(text::specs::Lists::rooms_of))]
 pub fn fill_all(
     offsets: &mut [u16],
     targets: &mut [u16],

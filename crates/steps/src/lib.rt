@@ -47,6 +47,7 @@ fn is_open(stop: Stop) -> bool
 }
 
 // In a turn list.
+#[tactic(auto, unfolding(crate::specs::Standing::standing_in))]
 pub fn standing_in(turns: &[u8], used: usize, stop: Stop) -> Standing
     ensures { result ≡ standing_in turns.now used stop }
 {
@@ -69,6 +70,7 @@ pub fn standing_in(turns: &[u8], used: usize, stop: Stop) -> Standing
 }
 
 // In the rounds 0, 1, .., P − 1.
+#[tactic(auto, unfolding(crate::specs::Standing::standing_on))]
 pub fn standing_on(next: usize, used: usize, stop: Stop) -> Standing
     ensures { result ≡ standing_on next used stop }
 {
@@ -89,6 +91,7 @@ pub fn standing_on(next: usize, used: usize, stop: Stop) -> Standing
 }
 
 // The worker after p.
+#[tactic(auto, unfolding(crate::specs::Standing::followed))]
 fn following(workers: usize, p: usize) -> usize
     requires { p ≤ 65535 }
     ensures { result ≡ followed workers p }

@@ -16,6 +16,7 @@ pub struct Played {
     pub stop: Stop,
 }
 
+#[tactic(auto, unfolding(crate::specs::Verdict::all_done_in, graphs::specs::Lists::every))]
 fn all_done(room: &[u16], n: usize, workers: usize) -> bool
     requires { room_size n workers ≤ length room.now }
     ensures { result ≡ all_done_in n workers room.now }
@@ -30,6 +31,7 @@ fn all_done(room: &[u16], n: usize, workers: usize) -> bool
     true
 }
 
+#[tactic(auto, unfolding(crate::specs::Verdict::quiet_in))]
 fn quiet(room: &[u16], n: usize, workers: usize) -> Stop
     requires { room_size n workers ≤ length room.now }
     ensures { result ≡ quiet_in n workers room.now }

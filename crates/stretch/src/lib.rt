@@ -31,6 +31,7 @@ pub fn own_in(room: &[u16], at: usize) -> Own
 }
 
 // Stores them.
+#[tactic(auto, unfolding(crate::specs::Stores::put_words))]
 fn put(t: &mut [u16], n: usize, own: Own)
     requires { Sized n t.old }
     ensures { t.new ≡ put_words n own t.old }
@@ -43,6 +44,7 @@ fn put(t: &mut [u16], n: usize, own: Own)
 }
 
 // Move 1.
+#[tactic(auto, unfolding(crate::specs::Stores::start_words))]
 pub fn start(t: &mut [u16], n: usize, own: Own)
     requires { Sized n t.old × (0 < n) }
     ensures { t.new ≡ start_words n own t.old }
@@ -62,6 +64,7 @@ pub fn start(t: &mut [u16], n: usize, own: Own)
 }
 
 // Moves 2 and 4: a successor of s is taken.
+#[tactic(auto, unfolding(crate::specs::Stores::take_words))]
 pub fn take(t: &mut [u16], n: usize, s: u16)
     requires { Sized n t.old × (s < n) × Counts n s t.old }
     ensures { t.new ≡ take_words n s t.old }
@@ -71,6 +74,7 @@ pub fn take(t: &mut [u16], n: usize, s: u16)
 }
 
 // Move 2: x is taken from s, becomes cyan and goes on the outer stack.
+#[tactic(auto, unfolding(crate::specs::Stores::enter_words))]
 pub fn enter(t: &mut [u16], n: usize, own: Own, s: u16, x: u16)
     requires { Sized n t.old × (s < n) × Counts n s t.old × (x < n) × (own.outer < n) }
     ensures { t.new ≡ enter_words n own s x t.old }
@@ -82,6 +86,7 @@ pub fn enter(t: &mut [u16], n: usize, own: Own, s: u16, x: u16)
 }
 
 // s loses cyan and leaves the outer stack; the place after it is given.
+#[tactic(auto, unfolding(crate::specs::Stores::pop_words))]
 fn pop(t: &mut [u16], n: usize, own: Own, s: u16, place: Place)
     requires { Sized n t.old × (s < n) × (0 < own.outer) × (own.outer ≤ n) }
     ensures { t.new ≡ pop_words n own s place t.old }
@@ -102,6 +107,7 @@ fn pop(t: &mut [u16], n: usize, own: Own, s: u16, place: Place)
 }
 
 // Move 3, not accepting.
+#[tactic(auto, unfolding(crate::specs::Stores::leave_words))]
 pub fn leave(t: &mut [u16], n: usize, own: Own, s: u16)
     requires { Sized n t.old × (s < n) × (0 < own.outer) × (own.outer ≤ n) }
     ensures { t.new ≡ leave_words n own s t.old }
@@ -111,6 +117,7 @@ pub fn leave(t: &mut [u16], n: usize, own: Own, s: u16)
 }
 
 // Move 3, accepting: R, which is empty, holds only s.
+#[tactic(auto, unfolding(crate::specs::Stores::seed_words))]
 pub fn seed(t: &mut [u16], n: usize, own: Own, s: u16)
     requires { Sized n t.old × (s < n) }
     ensures { t.new ≡ seed_words n own s t.old }
@@ -131,6 +138,7 @@ pub fn seed(t: &mut [u16], n: usize, own: Own, s: u16)
 }
 
 // Move 4: x is taken from s, and joins R and the inner stack.
+#[tactic(auto, unfolding(crate::specs::Stores::join_words))]
 pub fn join(t: &mut [u16], n: usize, own: Own, s: u16, x: u16)
     requires { Sized n t.old × (s < n) × Counts n s t.old × (x < n) × (own.inner < n) }
     ensures { t.new ≡ join_words n own s x t.old }
@@ -142,6 +150,7 @@ pub fn join(t: &mut [u16], n: usize, own: Own, s: u16, x: u16)
 }
 
 // Move 5.
+#[tactic(auto, unfolding(crate::specs::Stores::back_words))]
 pub fn back(t: &mut [u16], n: usize, own: Own, s: u16)
     requires { Sized n t.old × (s < n) × (0 < own.inner) × (own.inner ≤ n) }
     ensures { t.new ≡ back_words n own s t.old }
@@ -162,6 +171,7 @@ pub fn back(t: &mut [u16], n: usize, own: Own, s: u16)
 }
 
 // Move 6: R is emptied, and the seed z leaves the outer stack.
+#[tactic(auto, unfolding(crate::specs::Stores::clear_words, crate::specs::Stores::paint_words))]
 pub fn paint(t: &mut [u16], n: usize, own: Own, z: u16)
     requires { Sized n t.old × (z < n) × (0 < own.outer) × (own.outer ≤ n) }
     ensures { t.new ≡ paint_words n own z t.old }

@@ -19,21 +19,11 @@ returns-then-not-byte_is c =
     let front = sym c.in-Stands.is ∙ c.front_at.ensures in
     state_no_feed c.args.text.now c.args.at _ _ front (if_not c.byte_is.ensures c.if-not-byte_is.true-raw)
 
-pub overflow_add-result : goal.overflow_add-result
-overflow_add-result c =
-    let front = sym c.in-Stands.is ∙ c.front_at.ensures in
-    omega (arith, c.requires.1, front_far c.args.text.now c.args.at 83 _ c.in-Stands.after (omega arith) front)
-
 pub returns-then-byte_is : goal.returns-then-byte_is
 returns-then-byte_is c =
     let front = sym c.in-Stands.is ∙ c.front_at.ensures in
     let feed = if_so c.byte_is.ensures c.if-not-byte_is.false-raw in
     state_accepting c.args.text.now c.args.at _ _ front feed (sym c.byte_is-2.ensures ∙ c.if-byte_is.true)
-
-pub overflow_add-result-then-byte_is-2 : goal.overflow_add-result-then-byte_is-2
-overflow_add-result-then-byte_is-2 c =
-    let front = sym c.in-Stands.is ∙ c.front_at.ensures in
-    omega (arith, c.requires.1, front_far c.args.text.now c.args.at 83 _ c.in-Stands.after (omega arith) front)
 
 pub returns-then-byte_is-2 : goal.returns-then-byte_is-2
 returns-then-byte_is-2 c =

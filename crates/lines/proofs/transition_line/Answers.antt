@@ -1,13 +1,10 @@
 -- `transition_line` meets its contract: each arm cites the law of what its tests say of the line at the place.
-use Prim.Native.Nat.{◌≤◌}
 use mathlib.Core.Path.{sym, ◌∙◌}
 use native.Mathlib.Omega.{arith}
-use lib.ListN.{drop}
 use Rattle.graphs.proofs.Tests.{if_not, if_so}
 use Rattle.lines.specs.Found.{label_of}
 use Rattle.lines.proofs.Found.{transition_no_front, transition_no_label, transition_no_feed, transition_is}
 use Rattle.lines.proofs.Front.{front_far}
-use Rattle.lines.proofs.Labels.{here_low}
 use Rattle.lines.proofs.transition_line.Goals as goal
 
 pub returns-in_default : goal.returns-in_default
@@ -25,36 +22,12 @@ returns-then-len-eq0 c =
     let front = sym c.in-Stands.is ∙ c.front_at.ensures in
     transition_no_label c.args.text.now c.args.at _ _ front (rw c.label_at-to.ensures at c.if-len-eq0.true)
 
-pub overflow_add-after : goal.overflow_add-after
-unfolding label_of
-overflow_add-after c =
-    let front = sym c.in-Stands.is ∙ c.front_at.ensures in
-    let few : c.label_at-to.result.len ≤ 16 =
-    rw c.label_at-to.ensures (here_low (drop c.in-Stands.after c.args.text.now)) in
-    omega (arith, c.requires.1, front_far c.args.text.now c.args.at 84 _ c.in-Stands.after (omega arith) front)
-
 pub returns-then-not-byte_is : goal.returns-then-not-byte_is
 unfolding label_of
 returns-then-not-byte_is c =
     let front = sym c.in-Stands.is ∙ c.front_at.ensures in
     let feed = rw c.label_at-to.ensures at (if_not c.byte_is.ensures c.if-not-byte_is.true-raw) in
     transition_no_feed c.args.text.now c.args.at _ _ front feed
-
-pub overflow_add-result : goal.overflow_add-result
-unfolding label_of
-overflow_add-result c =
-    let front = sym c.in-Stands.is ∙ c.front_at.ensures in
-    let few : c.label_at-to.result.len ≤ 16 =
-    rw c.label_at-to.ensures (here_low (drop c.in-Stands.after c.args.text.now)) in
-    omega (arith, c.requires.1, front_far c.args.text.now c.args.at 84 _ c.in-Stands.after (omega arith) front)
-
-pub overflow_add-result-2 : goal.overflow_add-result-2
-unfolding label_of
-overflow_add-result-2 c =
-    let front = sym c.in-Stands.is ∙ c.front_at.ensures in
-    let few : c.label_at-to.result.len ≤ 16 =
-    rw c.label_at-to.ensures (here_low (drop c.in-Stands.after c.args.text.now)) in
-    omega (arith, c.requires.1, front_far c.args.text.now c.args.at 84 _ c.in-Stands.after (omega arith) front)
 
 pub returns : goal.returns
 unfolding label_of

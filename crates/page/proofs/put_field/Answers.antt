@@ -1,12 +1,8 @@
 -- `put_field` writes a tab and a number.
 use Rattle.page.specs.Words.{bytes}
 use Rattle.page.specs.Numbers.{decimal, field}
-use Rattle.page.proofs.Written.{holds_first, holds_rest, then}
+use Rattle.page.proofs.Written.{holds_rest, then}
 use Rattle.page.proofs.put_field.Goals as goal
-
-pub put-end-requires : goal.put-end-requires
-unfolding field bytes
-put-end-requires c = holds_first (bytes "\t") (decimal c.args.n) c.requires
 
 pub put_number-requires : goal.put_number-requires
 unfolding field bytes

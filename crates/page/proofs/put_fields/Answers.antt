@@ -1,9 +1,8 @@
 -- `put_fields` writes a field for each number: after i turns of its loop, the first i.
-use mathlib.Core.Path.{refl, ap, ◌∙◌}
+use mathlib.Core.Path.{refl, ◌∙◌}
 use native.Mathlib.Omega.{arith}
 use Rattle.page.specs.Numbers.{field}
-use Rattle.page.specs.Page.{puts}
-use Rattle.page.proofs.Pieces.{pieces_none, pieces_all, piece_holds, piece_more}
+use Rattle.page.proofs.Pieces.{pieces_none, piece_holds, piece_more}
 use Rattle.page.proofs.put_fields.Goals as goal
 
 pub loop-i-init : goal.loop-i-init
@@ -14,9 +13,3 @@ put_field-end-requires c = let turn = c.loop-i in piece_holds field c.args.numbe
 
 pub loop-i-preserved : goal.loop-i-preserved
 loop-i-preserved c = let turn = c.loop-i in let call = c.put_field-end in let below = c.loop-i-test.true in (omega (arith, below), call.auto.page ∙ turn.invariant.1, piece_more field c.args.numbers.now c.requires turn.i below turn.invariant.2 call.ensures)
-
-pub shape_of-page : goal.shape_of-page
-shape_of-page c = c.loop-i.invariant.1
-
-pub returns : goal.returns
-returns c = let turn = c.loop-i in let numbers = c.args.numbers.now in turn.invariant.2 ∙ ap (puts _ _) (pieces_all field turn.i numbers (omega arith))

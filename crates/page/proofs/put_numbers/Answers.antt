@@ -5,10 +5,6 @@ use Rattle.page.specs.Numbers.{fields, numbers_line}
 use Rattle.page.proofs.Written.{holds_first, holds_rest, then}
 use Rattle.page.proofs.put_numbers.Goals as goal
 
-pub put-a-requires : goal.put-a-requires
-unfolding numbers_line
-put-a-requires c = holds_first c.args.word.now (fields c.args.numbers.now ++ bytes "\n") c.requires
-
 pub put_fields-b-requires : goal.put_fields-b-requires
 unfolding numbers_line
 put_fields-b-requires c =

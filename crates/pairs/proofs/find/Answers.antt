@@ -8,9 +8,6 @@ use Rattle.pairs.proofs.find.Goals as goal
 pub loop-j-init : goal.loop-j-init
 loop-j-init c = rw (c.wide-j.ensures, c.bucket-h.ensures.0) (way_start _ _ c.args.a c.args.b _ _ _ c.requires)
 
-pub is_pair-requires : goal.is_pair-requires
-is_pair-requires c = omega (arith, c.loop-j.invariant.low, c.requires.in_first, c.requires.in_second)
-
 pub returns-then-is_pair : goal.returns-then-is_pair
 returns-then-is_pair c = way_found _ _ _ _ _ c.loop-j.j _ c.loop-j.invariant (omega arith) (sym c.is_pair.ensures ∙ c.if-is_pair.true)
 

@@ -1,21 +1,10 @@
 -- `read` meets its contract: too long, a graph, or refused and cleared.
-use mathlib.Core.Path.{sym, ap, ◌∙◌}
-use Rattle.text.specs.Lists.{zeros}
+use mathlib.Core.Path.{◌∙◌}
 use Rattle.statelist.proofs.Ends.{comes_long, comes_graph, comes_cleared}
 use Rattle.statelist.proofs.read.Goals as goal
 
 pub returns-then-text-gt-MOST_TEXT : goal.returns-then-text-gt-MOST_TEXT
 returns-then-text-gt-MOST_TEXT c = let cleared = c.clear_all.ensures in rw (cleared.0, cleared.1, cleared.2, cleared.3) (comes_long _ _ _ _ _ c.if-text-gt-MOST_TEXT.true)
-
-pub fill_all-reading-requires : goal.fill_all-reading-requires
-fill_all-reading-requires c =
-    let cleared = c.clear_all.ensures in (
-      c.if-text-gt-MOST_TEXT.false,
-      cleared.0 ∙ ap zeros (sym c.offsets-1.given),
-      cleared.1 ∙ ap zeros (sym c.targets-1.given),
-      cleared.2 ∙ ap zeros (sym c.flags-1.given),
-      cleared.3 ∙ ap zeros (sym c.places-1.given),
-    )
 
 pub returns-in_default : goal.returns-in_default
 returns-in_default c =

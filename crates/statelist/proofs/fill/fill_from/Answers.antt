@@ -1,7 +1,7 @@
 -- `fill_from` meets its contract: the T lines are refused, or read and then what `close` makes of them.
 use mathlib.Core.Path.{refl}
 use native.Mathlib.Omega.{arith}
-use Rattle.statelist.proofs.Ends.{listed_buildable, stop_closes, closed_closes}
+use Rattle.statelist.proofs.Ends.{closed_closes}
 use Rattle.statelist.proofs.Listed.{listed_none}
 use Rattle.statelist.proofs.fill.fill_from.Goals as goal
 
@@ -19,19 +19,6 @@ read_transitions-requires c =
       listed_none _ _ _ _ _ _ _ _ _ _ _ _ _ pre.6 refl pre.1 pre.2,
       pre.8,
     )
-
-pub close-requires : goal.close-requires
-close-requires c =
-    let read = rw c.in-On.is at c.read_transitions.ensures in
-    let pre = c.requires in let held = c.transitions_held-held.ensures in (
-      λ some.
-          listed_buildable read.0 pre.3 (omega (arith, held)) (omega (arith, some, pre.4, c.offsets-1.given))
-          (omega (arith, held)) (omega (arith, held, c.from-2-1.given)) (omega (arith, held, c.to-2-1.given)) pre.7,
-      read.0.counts,
-    )
-
-pub returns-in-Stop : goal.returns-in-Stop
-returns-in-Stop c = rw (← c.transitions_held-held.ensures) (stop_closes _ _ _ _ _ _ _ _ _ _ _ (rw c.in-Stop.is at c.read_transitions.ensures))
 
 pub returns-in-On : goal.returns-in-On
 returns-in-On c =

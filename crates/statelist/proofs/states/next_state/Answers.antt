@@ -19,10 +19,3 @@ returns-then-held-n c =
     λ flags places t d.
     let here = state_here (sym c.state_line.ensures ∙ c.in-State.is) in
     stop_full d here (sym c.find.ensures ∙ c.in-Nothing.is) (omega (arith, c.if-held-n.true)) t
-
-pub returns : goal.returns
-returns c = record {
-  stands = sym c.state_line.ensures ∙ c.in-State.is;
-  new = sym c.find.ensures ∙ c.in-Nothing.is;
-  room = omega (arith, c.if-held-n.false);
-}

@@ -3,29 +3,10 @@ use mathlib.Core.Path.{sym, ◌∙◌}
 use native.Mathlib.Omega.{arith}
 use lib.ListN.{get_or}
 use borrow.Author.Rules.{rules}
-use borrow.Author.Tests.{eqb-true, eqb-false}
+use borrow.Author.Tests.{eqb-true}
 use Rattle.statelist.proofs.Declared.{label_short, state_past, declared_put}
 use Rattle.statelist.proofs.Here.{byte_inside, state_here}
 use Rattle.statelist.proofs.states.read_states.Goals as goal
-
-pub loop-first-init : goal.loop-first-init
-loop-first-init c = record {
-  done = c.requires.7;
-  f_long = search rules;
-  p_long = search rules;
-  a_long = search rules;
-  b_long = search rules;
-  h_long = search rules;
-  x_long = search rules;
-}
-
-pub next_state-requires : goal.next_state-requires
-next_state-requires c =
-    let text = c.args.text.now in let at = c.loop-first.at in let letter = eqb-true (get_or text at 0) 83 (sym c.begins_state.ensures ∙ c.loop-first-test.true) in
-    let done = c.loop-first.invariant.done in (c.requires.0, byte_inside text at 83 (search rules) letter, letter, omega (arith, done.few, c.requires.1), done.index.chain, c.requires.8)
-
-pub returns-in-Bad : goal.returns-in-Bad
-returns-in-Bad c = λ t. (rw c.in-Bad.is at c.next_state.ensures) _ _ t c.loop-first.invariant.done
 
 pub add_state-requires : goal.add_state-requires
 add_state-requires c =
@@ -42,9 +23,6 @@ add_state-requires c =
       omega (arith, new.room, pre.5, inv.b_long),
       omega (arith, new.room, pre.6, inv.x_long),
     )
-
-pub overflow_add-n : goal.overflow_add-n
-overflow_add-n c = let new = rw c.in-New.is at c.next_state.ensures in omega (arith, new.room, c.requires.1)
 
 pub loop-first-smaller : goal.loop-first-smaller
 loop-first-smaller c =
@@ -68,6 +46,3 @@ loop-first-preserved c =
       h_long = c.head-1.given ∙ inv.h_long;
       x_long = c.next-1.given ∙ inv.x_long;
     }
-
-pub returns : goal.returns
-returns c = (c.loop-first.invariant.done, eqb-false _ _ (sym c.begins_state.ensures ∙ c.loop-first-test.false))
