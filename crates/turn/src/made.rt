@@ -8,6 +8,7 @@ use stretch::{Own, back, enter, join, leave, paint, seed, start, take};
 use words::wide;
 
 // All of R becomes red.
+#[tactic(auto, unfolding(crate::specs::Made::dyed_to))]
 fn dye(room: &mut [u16], n: usize, a: usize)
     requires { Lends n a room.old }
     ensures { room.new ≡ dyed_to n a n room.old }
@@ -19,6 +20,7 @@ fn dye(room: &mut [u16], n: usize, a: usize)
     }
 }
 
+#[tactic(auto, unfolding(crate::specs::Made::made_words))]
 fn make_leave(room: &mut [u16], n: usize, a: usize, own: Own, s: u16)
     requires { Fit n a own (Leave s) room.old }
     ensures { room.new ≡ made_words n a own (Leave s) room.old }
@@ -28,6 +30,7 @@ fn make_leave(room: &mut [u16], n: usize, a: usize, own: Own, s: u16)
     room[wide(s)] = 1;
 }
 
+#[tactic(auto, unfolding(crate::specs::Made::made_words))]
 fn make_seed(room: &mut [u16], n: usize, a: usize, own: Own, s: u16)
     requires { Fit n a own (Seed s) room.old }
     ensures { room.new ≡ made_words n a own (Seed s) room.old }
@@ -37,6 +40,7 @@ fn make_seed(room: &mut [u16], n: usize, a: usize, own: Own, s: u16)
     room[wide(s)] = 1;
 }
 
+#[tactic(auto, unfolding(crate::specs::Made::made_words))]
 fn make_paint(room: &mut [u16], n: usize, a: usize, own: Own, z: u16)
     requires { Fit n a own (Paint z) room.old }
     ensures { room.new ≡ made_words n a own (Paint z) room.old }
@@ -46,6 +50,7 @@ fn make_paint(room: &mut [u16], n: usize, a: usize, own: Own, z: u16)
     paint(&mut room[a..b], n, own, z);
 }
 
+#[tactic(auto, unfolding(crate::specs::Made::made_words))]
 pub fn make(room: &mut [u16], n: usize, a: usize, own: Own, made: Move)
     requires { Fit n a own made room.old }
     ensures { room.new ≡ made_words n a own made room.old }

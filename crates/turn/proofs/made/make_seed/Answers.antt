@@ -1,8 +1,0 @@
--- `make_seed` meets its contract: `seed` on the stretch, and the store that makes s blue.
-use Rattle.turn.specs.Made.{made_words}
-use Rattle.turn.proofs.Lent.{lent_long}
-use Rattle.turn.proofs.made.make_seed.Goals as goal
-
-pub returns : goal.returns
-unfolding made_words
-returns c = rw (c.seed.ensures, c.wide.ensures, lent_long)
