@@ -7,7 +7,8 @@ pub fn put_number(page: &mut [u8], at: usize, n: u64) -> usize
     requires { Holds page.old at (decimal n) }
     ensures { written result page.new ≡ puts page.old at (decimal n) }
 {
-    if n < 10 {
+    let one_digit = n < 10;
+    if one_digit {
         return put_digit(page, at, n);
     }
     let end = put_number(page, at, n / 10);
