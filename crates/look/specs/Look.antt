@@ -7,7 +7,7 @@ use Rattle.moves.specs.declared.Place.TheVariants.{Fresh, Outer, Inner, Waiting,
 use Rattle.moves.specs.declared.Move.{Move}
 use Rattle.moves.specs.declared.Move.TheVariants.{Start, Skip, Enter, Leave, Seed, Hit, Pass, Join, Back, Paint, Wait, Rest}
 use Rattle.moves.specs.Room.{stretch}
-use Rattle.stretch.specs.declared.Own.{Own}
+use Rattle.moves.specs.declared.own.Own.{Own}
 use Rattle.look.specs.declared.successor.Next.{Next}
 use Rattle.look.specs.declared.successor.Next.TheVariants.{Taken, Nothing}
 use Rattle.look.specs.Successor.{successor_in}

@@ -9,8 +9,7 @@ ghost use Rattle.std.specs.Prelude.{◌≡◌};
 ghost use Rattle.look.specs.Look.{Ready, chosen};
 
 use moved::{inner_move, outer_move};
-use moves::{Move, Place};
-use stretch::Own;
+use moves::{Move, Own, Place};
 use waiting::waiting_move;
 
 // 01: "A turn makes one move": which one it is.

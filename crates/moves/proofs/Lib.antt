@@ -9,3 +9,4 @@ pub mod Room
 pub mod Stretch
 pub mod Parts
 pub mod Words
+pub mod Owned

@@ -2,10 +2,14 @@
 // has a method for each move that changes it, which takes the place and hands it back; the tally is raised by the move.
 #![tactic(auto)]
 
+mod own;
+
 ghost use Rattle.std.specs.Prelude.{◌≡◌};
 ghost use Rattle.moves.specs.Place.{started, left, seeded, backed, painted};
 ghost use Rattle.moves.specs.Room.{kind_word, seed_word, place_of};
 ghost use Rattle.moves.specs.Tally.{raised, entered, joined, waited, changed, Low};
+
+pub use own::{Own, own_in};
 
 // 01: "not started, outer search, inner search with its seed, waiting with its seed, or done"
 #[derive(Clone, Copy)]

@@ -11,7 +11,7 @@ use Rattle.moves.specs.declared.Place.TheVariants.{Fresh, Outer, Inner, Waiting,
 use Rattle.moves.specs.declared.Tally.{Tally}
 use Rattle.moves.specs.Run.{up_from}
 use Rattle.moves.proofs.UpFrom.{up_from_long, up_from_below}
-use Rattle.stretch.specs.declared.Own.{Own}
+use Rattle.moves.specs.declared.own.Own.{Own}
 use Rattle.ends.specs.Told.{Told, told_cycle, told_none, told_undecided, told_refusal}
 use Rattle.theory.specs.Invariant.{SeedAt}
 use Rattle.page.specs.Words.{bytes}

@@ -20,9 +20,9 @@ use Rattle.theory.specs.Turns.{Named, most_moves}
 use Rattle.theory.proofs.Ends.{rounds_named}
 use Rattle.theory.proofs.Rooms.{run_fits}
 use Rattle.theory.proofs.Demands.{graph_of_words, seeds_inside}
-use Rattle.stretch.specs.declared.Own.{Own}
-use Rattle.stretch.specs.Own.{own_of}
-use Rattle.stretch.proofs.Owned.{own_seen}
+use Rattle.moves.specs.declared.own.Own.{Own}
+use Rattle.moves.specs.Own.{own_of}
+use Rattle.moves.proofs.Owned.{own_seen}
 use Rattle.limits.specs.Refusals.{refusal_of}
 use Rattle.limits.proofs.Refused.{Fine, fine}
 use Rattle.ends.specs.Told.{tells_of}

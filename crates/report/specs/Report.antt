@@ -5,8 +5,8 @@ use Rattle.moves.specs.declared.Place.TheVariants.{Fresh, Outer, Inner, Waiting,
 use Rattle.moves.specs.declared.Tally.{Tally}
 use Rattle.moves.specs.Run.{up_from}
 use Rattle.moves.specs.Room.{stretch_at}
-use Rattle.stretch.specs.declared.Own.{Own}
-use Rattle.stretch.specs.Own.{own_in}
+use Rattle.moves.specs.declared.own.Own.{Own}
+use Rattle.moves.specs.Own.{own_in}
 use Rattle.ends.specs.Told.{Told, told_cycle, told_none, told_undecided, told_refusal}
 use Rattle.text.specs.Lists as reader
 use Rattle.page.specs.Words.{bytes, joined}

@@ -6,9 +6,8 @@ ghost use Rattle.report.specs.Report.{own_at, place_field, label_field, seed_fie
 ghost use Rattle.report.specs.Shows.{Labelled, Seeded, ShowsWorkers};
 
 use crate::labels::put_label;
-use moves::Place;
+use moves::{Own, Place, own_in};
 use page::{put, put_fields};
-use stretch::{Own, own_in};
 
 // The workers below p. The room is the form of a machine of n states.
 #[tactic(auto, using(page::proofs::Pieces::pieces_none, crate::proofs::Below::below_all))]

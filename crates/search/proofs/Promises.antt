@@ -27,8 +27,8 @@ use Rattle.theory.proofs.Demands.{graph_of_words, each_turn_moves, cycle_is_lass
 use Rattle.theory.proofs.Demands.{some_worker_moves, seeds_inside}
 use Rattle.theory.proofs.Demands.{words_moves_bounded, words_cut_decides, cut_same_word, words_most}
 use Rattle.theory.proofs.Rooms.{run_fits}
-use Rattle.stretch.specs.Own.{own_of, own_in}
-use Rattle.stretch.proofs.Owned.{own_seen}
+use Rattle.moves.specs.Own.{own_of, own_in}
+use Rattle.moves.proofs.Owned.{own_seen}
 use Rattle.limits.specs.Refusals.{most_workers, refusal_of, usual}
 use Rattle.limits.proofs.Refused.{fine}
 use Rattle.ends.specs.declared.Outcome.{Outcome}

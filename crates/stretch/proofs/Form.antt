@@ -14,7 +14,7 @@ use Rattle.moves.proofs.Bits.{bits_upd, bits_empty, bits_only}
 use Rattle.moves.proofs.Pile.{pile_push, pile_pop}
 use Rattle.moves.proofs.Parts.{six, Even, six_set_1, six_set_2, six_set_3, six_set_4, six_set_5, six_set_6, six_word_5, six_put_2}
 use Rattle.moves.proofs.Words.{five}
-use Rattle.stretch.specs.declared.Own.{Own}
+use Rattle.moves.specs.declared.own.Own.{Own}
 use Rattle.stretch.specs.Stores.{put_words, clear_words}
 
 -- cyan k and R r, the outer stack o and the inner stack i, the counts t, and the words q after them

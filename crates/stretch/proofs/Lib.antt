@@ -1,5 +1,4 @@
--- A worker's place and depths in the room; stores into its stretch: into one of its parts, and those of each move, which make the stretch of the
+-- Stores into its stretch: into one of its parts, and those of each move, which make the stretch of the
 -- changed worker.
-pub mod Owned
 pub mod Form
 pub mod Stored

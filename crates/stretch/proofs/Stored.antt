@@ -14,7 +14,7 @@ use Rattle.moves.specs.Place.{left, painted}
 use Rattle.moves.specs.Machine.{Worker, empty}
 use Rattle.moves.specs.Changes.{is_empty, starts, takes, enters, pops, seeds, joins, backs}
 use Rattle.moves.specs.Room.{span, Fits}
-use Rattle.stretch.specs.Own.{own_of}
+use Rattle.moves.specs.Own.{own_of}
 use Rattle.stretch.specs.Stores.{start_words, take_words, enter_words, pop_words, leave_words, seed_words, join_words, back_words, paint_words}
 use Rattle.stretch.proofs.Form.{form, span_form, form_cyan_on, form_cyan_off, form_R_on, form_only, form_clear}
 use Rattle.stretch.proofs.Form.{form_outer_push, form_outer_pop, form_outer_first, form_inner_push, form_inner_pop, form_inner_first}

@@ -4,7 +4,7 @@ use Rattle.std.specs.Prelude.{ℕ, ◌+◌, ◌-◌, ◌*◌, ◌<◌, ◌≤◌
 use Rattle.moves.specs.declared.Place.{Place}
 use Rattle.moves.specs.Place.{started, left, seeded, backed, painted}
 use Rattle.moves.specs.Room.{kind_word, seed_word, stretch}
-use Rattle.stretch.specs.declared.Own.{Own}
+use Rattle.moves.specs.declared.own.Own.{Own}
 
 -- t is as long as a stretch
 pub record Sized (n : ℕ) (t : List ℕ) : Type 0 where

@@ -3,34 +3,13 @@
 #![tactic(auto)]
 
 ghost use Rattle.std.specs.Prelude.{◌≡◌, ◌+◌, ◌≤◌, ◌<◌, length};
-ghost use Rattle.stretch.specs.Own.{own_in};
 ghost use Rattle.stretch.specs.Stores.{Sized, Counts, put_words, start_words, take_words, enter_words, pop_words, leave_words};
 ghost use Rattle.stretch.specs.Stores.{seed_words, join_words, back_words, paint_words};
 
-use moves::{Place, place_of};
+use moves::{Own, Place};
 use words::{clear, wide};
 
-// A worker's place, beside the depths of its two stacks.
-#[derive(Clone, Copy)]
-pub struct Own {
-    pub place: Place,
-    pub outer: u16,
-    pub inner: u16,
-}
-
-// Reads the four words from `at` on.
-pub fn own_in(room: &[u16], at: usize) -> Own
-    requires { at + 4 ≤ length room.now }
-    ensures { result ≡ own_in room.now at }
-{
-    Own {
-        place: place_of(room[at], room[at + 1]),
-        outer: room[at + 2],
-        inner: room[at + 3],
-    }
-}
-
-// Stores them.
+// Stores the last four words.
 #[tactic(auto, unfolding(crate::specs::Stores::put_words))]
 fn put(t: &mut [u16], n: usize, own: Own)
     requires { Sized n t.old }

@@ -18,7 +18,7 @@ use Rattle.moves.specs.Room.{stretch_at}
 use Rattle.moves.proofs.Words.{bit_test, blue_word, red_word}
 use Rattle.theory.specs.Rules.{Outermost, Innermost, Rule, by_start, by_skip, by_enter, by_leave, by_seed, by_hit, by_pass, by_join, by_back}
 use Rattle.theory.specs.Rules.{by_paint, by_wait, by_rest}
-use Rattle.stretch.specs.Own.{own_of}
+use Rattle.moves.specs.Own.{own_of}
 use Rattle.look.specs.Successor.{first_of}
 use Rattle.look.specs.Look.{Topped, TopOf, Ready, outer_taken, outer_ended, on_next, outer_move, inner_taken, inner_move, passes, others_red_in}
 use Rattle.look.specs.Look.{waiting_move, chosen_at, chosen}

@@ -19,8 +19,8 @@ use Rattle.theory.specs.Turns.{AllShallow}
 use Rattle.theory.proofs.Depth.{local_shallow}
 use Rattle.theory.proofs.Run.{turn_shallow}
 use Rattle.theory.proofs.Taken.{next_edge}
-use Rattle.stretch.specs.Own.{own_of, own_in}
-use Rattle.stretch.proofs.Owned.{own_seen}
+use Rattle.moves.specs.Own.{own_of, own_in}
+use Rattle.moves.proofs.Owned.{own_seen}
 use Rattle.look.proofs.Rows.{row_of}
 use Rattle.look.proofs.Turned.{row_long}
 use Rattle.turn.specs.Turn.{Formed, Poised}

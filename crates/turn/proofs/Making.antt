@@ -25,7 +25,7 @@ use Rattle.theory.specs.Turns.{AllShallow}
 use Rattle.theory.specs.Rules.{Outermost, Innermost, Rule, by_start, by_skip, by_enter, by_leave, by_seed, by_hit, by_pass, by_join, by_back}
 use Rattle.theory.specs.Rules.{by_paint, by_wait, by_rest}
 use Rattle.theory.proofs.Phase.{at}
-use Rattle.stretch.specs.Own.{own_of}
+use Rattle.moves.specs.Own.{own_of}
 use Rattle.stretch.specs.Stores.{Counts, start_words, take_words, enter_words, leave_words, seed_words, join_words, back_words, paint_words}
 use Rattle.stretch.proofs.Stored.{start_span, take_span, enter_span, leave_span, seed_span, join_span, back_span, paint_span}
 use Rattle.turn.specs.Made.{stretch_in, on_stretch, dyed_to, made_words, Lends, Asks, Fit}

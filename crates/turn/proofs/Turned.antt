@@ -11,8 +11,8 @@ use Rattle.moves.specs.Moves.{turn}
 use Rattle.moves.specs.Room.{stretch_at}
 use Rattle.theory.specs.Rules.{Rule}
 use Rattle.theory.proofs.Rules.{obeys}
-use Rattle.stretch.specs.declared.Own.{Own}
-use Rattle.stretch.specs.Own.{own_of, own_in}
+use Rattle.moves.specs.declared.own.Own.{Own}
+use Rattle.moves.specs.Own.{own_of, own_in}
 use Rattle.look.specs.Look.{Ready, chosen}
 use Rattle.turn.specs.Made.{made_words, Fit}
 use Rattle.turn.specs.Turn.{Turned}

@@ -4,7 +4,7 @@ use Rattle.std.specs.Int.Bits.{bit_or}
 use Rattle.moves.specs.declared.Move.{Move}
 use Rattle.moves.specs.declared.Move.TheVariants.{Start, Skip, Enter, Leave, Seed, Hit, Pass, Join, Back, Paint, Wait, Rest}
 use Rattle.moves.specs.Room.{stretch}
-use Rattle.stretch.specs.declared.Own.{Own}
+use Rattle.moves.specs.declared.own.Own.{Own}
 use Rattle.stretch.specs.Stores.{Counts, start_words, take_words, enter_words, leave_words, seed_words, join_words, back_words, paint_words}
 
 -- the stretch of l that starts at a; and l with f made of it

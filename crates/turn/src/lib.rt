@@ -7,8 +7,7 @@ ghost use Rattle.turn.specs.Turn.{Poised, Turns};
 
 use look::choose;
 use made::make;
-use moves::Move;
-use stretch::own_in;
+use moves::{Move, own_in};
 
 // 01: "A turn makes one move". The room begins with the form of a machine; at exit it is the form of the machine after worker p's move.
 pub fn turn(room: &mut [u16], offsets: &[u16], targets: &[u16], flags: &[u16], p: usize) -> Move

@@ -3,8 +3,8 @@ ghost use Rattle.std.specs.Prelude.{◌≡◌};
 ghost use Rattle.moves.specs.declared.Move.TheVariants.{Leave, Seed, Paint};
 ghost use Rattle.turn.specs.Made.{Lends, Fit, made_words, dyed_to};
 
-use moves::Move;
-use stretch::{Own, back, enter, join, leave, paint, seed, start, take};
+use moves::{Move, Own};
+use stretch::{back, enter, join, leave, paint, seed, start, take};
 use words::wide;
 
 // All of R becomes red.

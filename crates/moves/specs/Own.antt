@@ -2,7 +2,7 @@
 use Rattle.std.specs.Prelude.{ℕ, ◌+◌, List, length, get_or}
 use Rattle.moves.specs.Machine.{Worker}
 use Rattle.moves.specs.Room.{place_of}
-use Rattle.stretch.specs.declared.Own.{Own}
+use Rattle.moves.specs.declared.own.Own.{Own}
 
 abbrev pub own_of : Worker → Own
 own_of w = record { place = w.place; outer = length w.outer; inner = length w.inner }

@@ -9,7 +9,7 @@ use Rattle.moves.specs.Machine.{Worker, Machine}
 use Rattle.moves.specs.Room.{kind_word, seed_word, stretch_at}
 use Rattle.moves.proofs.Room.{place_words}
 use Rattle.moves.proofs.Words.{Seen, own_word, last_at}
-use Rattle.stretch.specs.Own.{own_of, own_in}
+use Rattle.moves.specs.Own.{own_of, own_in}
 
 module _ (n P p : ℕ) (h : p < P) (m : Machine) (rest l : List ℕ) (seen : Seen n P m rest l) where
   abbrev w : Worker
