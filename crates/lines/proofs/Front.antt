@@ -15,9 +15,14 @@ use Rattle.lines.specs.Line.{is_label}
 use Rattle.lines.specs.Found.{label_of}
 use Rattle.lines.specs.Scan.{label_here, front_of}
 use Rattle.lines.specs.declared.Label.{Label}
-use Rattle.lines.specs.declared.scan.Front.TheVariants.{Stands, Nothing}
+use Rattle.lines.specs.declared.scan.Front.{Front}
+use Rattle.std.specs.Prelude.{Option, Some, None}
 use Rattle.lines.proofs.Bytes.{tab_ends}
 use Rattle.lines.proofs.Labels.{here_split, here_label, here_is, label_some, label_long}
+
+-- a front, as the code gives it
+abbrev pub stands : Label → ℕ → Option Front
+stands label after = Some (record { label = label; after = after })
 
 pub and_four : (a b c d : Bool) → (a && b && c && d) ≡ true → (a ≡ true) × (b ≡ true) × (c ≡ true) × (d ≡ true)
 and_four a b c d e =
@@ -39,26 +44,26 @@ module _ (text : List ℕ) (at letter : ℕ) where
   abbrev named : List ℕ
   named = label_here (drop (at + 2) text)
 
-  pub front_no_letter : eqb (get_or text at 0) letter ≡ false → Nothing ≡ front_of at letter (drop at text)
+  pub front_no_letter : eqb (get_or text at 0) letter ≡ false → None ≡ front_of at letter (drop at text)
   unfolding front_of
   front_no_letter e = rw (get_or-drop at text 0 0, add-zero at, e)
 
-  pub front_no_tab : eqb (get_or text (at + 1) 0) 9 ≡ false → Nothing ≡ front_of at letter (drop at text)
+  pub front_no_tab : eqb (get_or text (at + 1) 0) 9 ≡ false → None ≡ front_of at letter (drop at text)
   unfolding front_of
   front_no_tab e = rw (get_or-drop at text 1 0, e, and-false)
 
-  pub front_no_label : length named ≡ 0 → Nothing ≡ front_of at letter (drop at text)
+  pub front_no_label : length named ≡ 0 → None ≡ front_of at letter (drop at text)
   unfolding front_of
   front_no_label e = rw (drop-drop 2 at text, e, and-false)
 
-  pub front_no_end : eqb (get_or text (at + 2 + length named) 0) 9 ≡ false → Nothing ≡ front_of at letter (drop at text)
+  pub front_no_end : eqb (get_or text (at + 2 + length named) 0) 9 ≡ false → None ≡ front_of at letter (drop at text)
   unfolding front_of
   front_no_end e =
       let q : at + (2 + length named) ≡ at + 2 + length named = omega arith in
       rw (drop-drop 2 at text, get_or-drop at text (2 + length named) 0, q, e, and-false)
 
   pub front_here : eqb (get_or text at 0) letter ≡ true → eqb (get_or text (at + 1) 0) 9 ≡ true → 0 < length named
-      → eqb (get_or text (at + 2 + length named) 0) 9 ≡ true → Stands (label_of named) (at + 3 + length named) ≡ front_of at letter (drop at text)
+      → eqb (get_or text (at + 2 + length named) 0) 9 ≡ true → stands (label_of named) (at + 3 + length named) ≡ front_of at letter (drop at text)
   unfolding front_of
   front_here e₁ e₂ some e₄ =
       let q : at + (2 + length named) ≡ at + 2 + length named = omega arith in
@@ -76,7 +81,7 @@ pub record Begun (text : List ℕ) (at letter : ℕ) (l : Label) (after : ℕ) :
   pub is : drop at text ≡ letter ∷ 9 ∷ (label ++ 9 ∷ drop after text)
 
 module _ (text : List ℕ) (at letter : ℕ) (l : Label) (after : ℕ) (some : 0 < letter)
-    (found : Stands l after ≡ front_of at letter (drop at text)) where
+    (found : stands l after ≡ front_of at letter (drop at text)) where
   pub front_begun : Begun text at letter l after
   unfolding front_of
   front_begun = go (either (a && b && c && d))
@@ -100,9 +105,9 @@ module _ (text : List ℕ) (at letter : ℕ) (l : Label) (after : ℕ) (some : 0
       d = eqb (get_or left (2 + length label) 0) 9
 
       go : ((a && b && c && d) ≡ true) ⊎ ((a && b && c && d) ≡ false) → Begun text at letter l after
-      go (inr t) = let z : Stands l after ≡ Nothing = rw t at found in absurd (clash {b = true} refl (cc))
+      go (inr t) = let z : stands l after ≡ None = rw t at found in absurd (clash {b = true} refl (cc))
       go (inl t) =
-          let z : Stands l after ≡ Stands (label_of label) (at + 3 + length label) = rw t at found in
+          let z : stands l after ≡ stands (label_of label) (at + 3 + length label) = rw t at found in
           let words : l ≡ label_of label = cc in
           let place : after ≡ at + 3 + length label = cc in
           let far : at + suc (2 + length label) ≡ after = omega arith in
@@ -127,7 +132,7 @@ module _ (text : List ℕ) (at letter : ℕ) (l : Label) (after : ℕ) (some : 0
 
 -- a front that stands there
 pub front_of_lem : (at letter : ℕ) (a r : List ℕ) → is_label a ≡ true
-    → front_of at letter (letter ∷ 9 ∷ (a ++ 9 ∷ r)) ≡ Stands (label_of a) (at + 3 + length a)
+    → front_of at letter (letter ∷ 9 ∷ (a ++ 9 ∷ r)) ≡ stands (label_of a) (at + 3 + length a)
 unfolding front_of
 front_of_lem at letter a r e =
     let q : 2 + length a ≡ suc (suc (length a)) = omega arith in

@@ -18,12 +18,11 @@ use Rattle.lines.specs.Line.{cut, fields, field, is_label}
 use Rattle.lines.specs.Found.{label_of, first_line, ended}
 use Rattle.lines.specs.Scan.{front_of}
 use Rattle.lines.specs.declared.Label.{Label}
-use Rattle.lines.specs.declared.scan.Front.TheVariants.{Stands}
 use Rattle.lines.proofs.Bytes.{tab_ends, line_feed_ends}
 use Rattle.lines.proofs.Labels.{label_bytes}
 use Rattle.lines.proofs.Cut.{Parted, parted?, parted_cut, cut_free, cut_at, cut_some, free_cons, free_join, free_all}
 use Rattle.lines.proofs.Pieces.{parted_line, parted_ended, ended_is}
-use Rattle.lines.proofs.Front.{front_of_lem}
+use Rattle.lines.proofs.Front.{stands, front_of_lem}
 
 abbrev pub line_of : ℕ → List ℕ → List ℕ → List ℕ
 line_of letter a b = letter ∷ 9 ∷ (a ++ 9 ∷ b)
@@ -118,10 +117,10 @@ drop_front letter a m =
 
 -- its front is found, and the last field stands where the front ends
 module _ (text : List ℕ) (at letter : ℕ) (a b r : List ℕ) (good : is_label a ≡ true) (is : drop at text ≡ three letter a b r) where
-  pub three_front : front_of at letter (drop at text) ≡ Stands (label_of a) (at + 3 + length a)
+  pub three_front : front_of at letter (drop at text) ≡ stands (label_of a) (at + 3 + length a)
   three_front = rw is (front_of_lem at letter a (b ++ 10 ∷ r) good)
 
-  pub three_rest : (l : Label) (after : ℕ) → Stands l after ≡ front_of at letter (drop at text) → drop after text ≡ b ++ 10 ∷ r
+  pub three_rest : (l : Label) (after : ℕ) → stands l after ≡ front_of at letter (drop at text) → drop after text ≡ b ++ 10 ∷ r
   three_rest l after e =
       let both = e ∙ three_front in
       let place : at + 3 + length a ≡ after = cc in

@@ -1,47 +1,37 @@
 -- The kinds of bytes. 01: "The reader sorts bytes by a table of 256 byte kinds (upper, lower, digit, mark, tab, line feed, other)".
-use Rattle.std.specs.Prelude.{ℕ, Bool, cond, ◌&&◌, ◌||◌, List, eqb, leb, ltb}
+use Rattle.std.specs.Prelude.{ℕ, Bool, true, false, cond, ◌&&◌, ◌||◌, List, eqb, leb}
 use Rattle.graphs.specs.Lists as lists
-
--- the numbers of the kinds; those below `tab` are the kinds of a label's bytes
-abbrev pub upper : ℕ
-upper = 0
-
-abbrev pub lower : ℕ
-lower = 1
-
-abbrev pub digit : ℕ
-digit = 2
-
-abbrev pub mark : ℕ
-mark = 3
-
-abbrev pub tab : ℕ
-tab = 4
-
-abbrev pub line_feed : ℕ
-line_feed = 5
-
-abbrev pub other : ℕ
-other = 6
+use Rattle.lines.specs.declared.kinds.Kind.{Kind}
+use Rattle.lines.specs.declared.kinds.Kind.TheVariants.{Upper, Lower, Digit, Mark, Tab, LineFeed, Other}
 
 unfoldable pub between : ℕ → ℕ → ℕ → Bool
 between low high x = leb low x && leb x high
 
 -- 01: "A–Z, a–z, 0–9, `-`, `_`, `.`"
-unfoldable pub kind_of : ℕ → ℕ
+unfoldable pub kind_of : ℕ → Kind
 kind_of b =
-    cond (between 65 90 b) upper
-    (cond (between 97 122 b) lower
-    (cond (between 48 57 b) digit
-    (cond (eqb b 45 || eqb b 95 || eqb b 46) mark
-    (cond (eqb b 9) tab
-    (cond (eqb b 10) line_feed
-    other)))))
+    cond (between 65 90 b) Upper
+    (cond (between 97 122 b) Lower
+    (cond (between 48 57 b) Digit
+    (cond (eqb b 45 || eqb b 95 || eqb b 46) Mark
+    (cond (eqb b 9) Tab
+    (cond (eqb b 10) LineFeed
+    Other)))))
+
+-- the kinds of a label's bytes
+abbrev pub of_label : Kind → Bool
+of_label Upper = true
+of_label Lower = true
+of_label Digit = true
+of_label Mark = true
+of_label Tab = false
+of_label LineFeed = false
+of_label Other = false
 
 -- a byte that a label may hold
 unfoldable pub in_label : ℕ → Bool
-in_label b = ltb (kind_of b) tab
+in_label b = of_label (kind_of b)
 
 -- the kinds of all bytes
-unfoldable pub kind_table : List ℕ
+unfoldable pub kind_table : List Kind
 kind_table = lists.tab 0 256 kind_of

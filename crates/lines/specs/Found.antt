@@ -1,13 +1,11 @@
 -- What the functions of src/ find in a text from a place on. A label is handed on as its length and two words, which are its first eight bytes
 -- and the rest of them, read as numbers in base 256. Labels have no byte 0, so different labels have different words (`words_differ`).
-use Rattle.std.specs.Prelude.{ℕ, zero, suc, ◌+◌, ◌*◌, Bool, cond, ◌&&◌, List, [], ◌∷◌, ltb, length, get_or, take, drop}
+use Rattle.std.specs.Prelude.{ℕ, zero, suc, ◌+◌, ◌*◌, Bool, cond, ◌&&◌, List, [], ◌∷◌, Option, Some, None, ltb, length, get_or, take, drop}
 use Rattle.lines.specs.Bytes.{in_label}
 use Rattle.lines.specs.Line.{pieces, field, is_state, is_transition, flag_of}
 use Rattle.lines.specs.declared.Label.{Label}
 use Rattle.lines.specs.declared.StateLine.{StateLine}
-use Rattle.lines.specs.declared.StateLine.TheVariants.{State, NoState}
 use Rattle.lines.specs.declared.TransitionLine.{TransitionLine}
-use Rattle.lines.specs.declared.TransitionLine.TheVariants.{Transition, NoTransition}
 
 -- the bytes as a number in base 256, after the bytes that gave v
 unfoldable pub value_from : ℕ → List ℕ → ℕ
@@ -41,12 +39,16 @@ abbrev pub past_line : ℕ → List ℕ → ℕ
 past_line at line = at + length line + 1
 
 -- what the line at a place is: a state, or a transition
-unfoldable pub state_found : ℕ → List ℕ → StateLine
+unfoldable pub state_found : ℕ → List ℕ → Option StateLine
 state_found at left =
     let line = first_line left in
-    cond (ended left && is_state line) (State (label_of (field 1 line)) (flag_of line) (past_line at line)) NoState
+    cond (ended left && is_state line)
+    (Some (record { label = label_of (field 1 line); flag = flag_of line; next = past_line at line }))
+    None
 
-unfoldable pub transition_found : ℕ → List ℕ → TransitionLine
+unfoldable pub transition_found : ℕ → List ℕ → Option TransitionLine
 transition_found at left =
     let line = first_line left in
-    cond (ended left && is_transition line) (Transition (label_of (field 1 line)) (label_of (field 2 line)) (past_line at line)) NoTransition
+    cond (ended left && is_transition line)
+    (Some (record { from = label_of (field 1 line); to = label_of (field 2 line); next = past_line at line }))
+    None

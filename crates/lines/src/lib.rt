@@ -5,98 +5,79 @@ mod kinds;
 mod scan;
 
 ghost use Rattle.std.specs.Prelude.{◌≡◌, ◌≤◌, drop};
-ghost use Rattle.lines.specs.Bytes.{kind_of, kind_table};
 ghost use Rattle.lines.specs.Found.{state_found, transition_found};
 
+pub use kinds::Kind;
 use scan::{Front, byte_is, front_at, label_at};
 
 // A label: its length, and its bytes as two words, the first eight bytes and the rest of them, in base 256.
-#[derive(Drop)]
+#[derive(Clone, Copy, Debug, PartialEq, Eq)]
 pub struct Label {
     pub len: usize,
     pub first: usize,
     pub second: usize,
 }
 
-#[derive(Drop)]
-pub enum StateLine {
-    State {
-        label: Label,
-        flag: u16,
-        next: usize,
-    },
-    NoState,
+// A state line: its label, its flag's word, and the place after its line feed.
+#[derive(Clone, Copy, Debug, PartialEq, Eq)]
+pub struct StateLine {
+    pub label: Label,
+    pub flag: u16,
+    pub next: usize,
 }
 
-#[derive(Drop)]
-pub enum TransitionLine {
-    Transition { from: Label, to: Label, next: usize },
-    NoTransition,
-}
-
-// The kind of a byte: upper 0, lower 1, digit 2, mark 3, tab 4, line feed 5, other 6.
-pub fn kind(byte: u8) -> u8
-    ensures { result ≡ kind_of byte }
-{
-    let kinds = kinds::table();
-    kinds::kind_in(&kinds, byte)
-}
-
-// The kinds of all bytes, for a caller that lends them to `state_line` and `transition_line`.
-pub fn kind_table() -> [u8; 256]
-    ensures { result ≡ kind_table }
-{
-    kinds::table()
+// A transition line: its two labels, and the place after its line feed.
+#[derive(Clone, Copy, Debug, PartialEq, Eq)]
+pub struct TransitionLine {
+    pub from: Label,
+    pub to: Label,
+    pub next: usize,
 }
 
 // The state that stands at a place of a text: `S→label→flag` and a line feed.
-pub fn state_line(kinds: &[u8], text: &[u8], at: usize) -> StateLine
-    requires { (kinds.now ≡ kind_table) × (at ≤ 1048576) }
+pub fn state_line(text: &[u8], at: usize) -> Option<StateLine>
+    requires { at ≤ 1048576 }
     ensures { result ≡ state_found at (drop at text.now) }
 {
-    let Front::Stands { label, after } = front_at(kinds, text, at, 83) else {
-        return StateLine::NoState;
-    };
-    if !byte_is(text, after + 1, 10) {
-        return StateLine::NoState;
+    let Front { label, after } = front_at(text, at, b'S')?;
+    if !byte_is(text, after + 1, b'\n') {
+        return None;
     }
-    if byte_is(text, after, 97) {
-        return StateLine::State {
+    if byte_is(text, after, b'a') {
+        return Some(StateLine {
             label,
             flag: 1,
             next: after + 2,
-        };
+        });
     }
-    if byte_is(text, after, 45) {
-        return StateLine::State {
+    if byte_is(text, after, b'-') {
+        return Some(StateLine {
             label,
             flag: 0,
             next: after + 2,
-        };
+        });
     }
-    StateLine::NoState
+    None
 }
 
 // The transition that stands at a place of a text: `T→label→label` and a line feed.
 #[tactic(auto, unfolding(crate::specs::Found::label_of))]
-pub fn transition_line(kinds: &[u8], text: &[u8], at: usize) -> TransitionLine
-    requires { (kinds.now ≡ kind_table) × (at ≤ 1048576) }
+pub fn transition_line(text: &[u8], at: usize) -> Option<TransitionLine>
+    requires { at ≤ 1048576 }
     ensures { result ≡ transition_found at (drop at text.now) }
 {
-    let Front::Stands { label: from, after } = front_at(kinds, text, at, 84) else {
-        return TransitionLine::NoTransition;
-    };
-    let to = label_at(kinds, text, after);
+    let Front { label: from, after } = front_at(text, at, b'T')?;
+    let to = label_at(text, after);
     let len = to.len;
     if len == 0 {
-        return TransitionLine::NoTransition;
+        return None;
     }
-    if !byte_is(text, after + len, 10) {
-        return TransitionLine::NoTransition;
+    if !byte_is(text, after + len, b'\n') {
+        return None;
     }
-    TransitionLine::Transition {
+    Some(TransitionLine {
         from,
         to,
         next: after + len + 1,
-    }
+    })
 }

@@ -1,22 +1,21 @@
 // What stands at a place of a text: a byte, a label, and the front of a line, which is its letter, a tab, a label and a tab.
 ghost use Rattle.std.specs.Prelude.{◌≡◌, ◌+◌, ◌<◌, ◌≤◌, eqb, get_or, drop};
-ghost use Rattle.lines.specs.Bytes.{kind_table};
 ghost use Rattle.lines.specs.Found.{label_of};
 ghost use Rattle.lines.specs.Scan.{most_place, part_of, label_here, front_of};
 
 use crate::Label;
-use crate::kinds::{kind_in, wide};
+use crate::kinds::Kind;
 
-#[derive(Drop)]
+#[derive(Clone, Copy)]
 pub struct Part {
     pub len: usize,
     pub word: usize,
 }
 
-#[derive(Drop)]
-pub enum Front {
-    Stands { label: Label, after: usize },
-    Nothing,
+#[derive(Clone, Copy)]
+pub struct Front {
+    pub label: Label,
+    pub after: usize,
 }
 
 // The byte stands at i. (No byte asked for is 0, what a place past the end counts as.)
@@ -24,15 +23,12 @@ pub fn byte_is(text: &[u8], i: usize, byte: u8) -> bool
     requires { 0 < byte }
     ensures { result ≡ eqb (get_or text.now i 0) byte }
 {
-    if text.len() <= i {
-        return false;
-    }
-    text[i] == byte
+    text.get(i) == Some(&byte)
 }
 
 // The first of up to eight label bytes from a place on, and their word.
-pub fn part_at(kinds: &[u8], text: &[u8], at: usize) -> Part
-    requires { (kinds.now ≡ kind_table) × (at ≤ most_place) }
+pub fn part_at(text: &[u8], at: usize) -> Part
+    requires { at ≤ most_place }
     ensures { result ≡ part_of (drop at text.now) }
 {
     let mut len = 0;
@@ -43,21 +39,21 @@ pub fn part_at(kinds: &[u8], text: &[u8], at: usize) -> Part
             return Part { len, word };
         }
         let byte = text[i];
-        if 4 <= kind_in(kinds, byte) {
+        if !Kind::of(byte).is_of_label() {
             return Part { len, word };
         }
-        word = word * 256 + wide(byte);
+        word = word * 256 + usize::from(byte);
         len += 1;
     }
     Part { len, word }
 }
 
 // The label of up to 16 bytes from a place on; it has no byte if none stands there.
-pub fn label_at(kinds: &[u8], text: &[u8], at: usize) -> Label
-    requires { (kinds.now ≡ kind_table) × (at + 8 ≤ most_place) }
+pub fn label_at(text: &[u8], at: usize) -> Label
+    requires { at + 8 ≤ most_place }
     ensures { result ≡ label_of (label_here (drop at text.now)) }
 {
-    let begin = part_at(kinds, text, at);
+    let begin = part_at(text, at);
     let len = begin.len;
     let first = begin.word;
     if len < 8 {
@@ -67,7 +63,7 @@ pub fn label_at(kinds: &[u8], text: &[u8], at: usize) -> Label
             second: 0,
         };
     }
-    let end = part_at(kinds, text, at + 8);
+    let end = part_at(text, at + 8);
     Label {
         len: 8 + end.len,
         first,
@@ -77,26 +73,26 @@ pub fn label_at(kinds: &[u8], text: &[u8], at: usize) -> Label
 
 // The front of a line, which is its letter, a tab, a label and a tab; the next field starts at `after`.
 #[tactic(auto, unfolding(crate::specs::Found::label_of))]
-pub fn front_at(kinds: &[u8], text: &[u8], at: usize, letter: u8) -> Front
-    requires { (kinds.now ≡ kind_table) × (at + 10 ≤ most_place) × (0 < letter) }
+pub fn front_at(text: &[u8], at: usize, letter: u8) -> Option<Front>
+    requires { (at + 10 ≤ most_place) × (0 < letter) }
     ensures { result ≡ front_of at letter (drop at text.now) }
 {
     if !byte_is(text, at, letter) {
-        return Front::Nothing;
+        return None;
     }
-    if !byte_is(text, at + 1, 9) {
-        return Front::Nothing;
+    if !byte_is(text, at + 1, b'\t') {
+        return None;
     }
-    let label = label_at(kinds, text, at + 2);
+    let label = label_at(text, at + 2);
     let len = label.len;
     if len == 0 {
-        return Front::Nothing;
+        return None;
     }
-    if !byte_is(text, at + 2 + len, 9) {
-        return Front::Nothing;
+    if !byte_is(text, at + 2 + len, b'\t') {
+        return None;
     }
-    Front::Stands {
+    Some(Front {
         label,
         after: at + 3 + len,
-    }
+    })
 }
