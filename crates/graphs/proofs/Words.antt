@@ -5,11 +5,14 @@ use mathlib.Core.Bool.{true, not}
 use mathlib.Core.List.{List}
 use mathlib.Core.Logic.{◌⊎◌, inl, inr, ◌≢◌}
 use lib.Dec.{leb, ltb}
-use lib.ListN.{length, get_or, drop, length-take, length-drop}
+use lib.ListN.{length, get_or, take, drop, length-take, length-drop}
 use native.Mathlib.Nat.{le_refl}
 use native.Mathlib.Omega.{arith}
 use native.Mathlib.Numerals.{add-one}
 use borrow.Author.Tests.{leb-true, ltb-true, eqb-true, le-leb, lt-ltb, eq-eqb, not-true}
+use Rattle.std.specs.Prelude.{All}
+use Rattle.std.proofs.lemmas.Grind.{get_or_default_zero}
+use Rattle.std.proofs.lemmas.List.Elements.{All-take, All-drop}
 use Rattle.graphs.specs.Lists.{Mem, Once, sum, repeats}
 use Rattle.graphs.specs.Graph.{graph, edges, Sound}
 use Rattle.graphs.specs.Words.{successors, marked, graph_of, most_states, most_transitions, sizes_fit, offsets_span, never_falling, all_below}
@@ -142,3 +145,25 @@ module _ (offsets targets flags : List ℕ) where
     pub edges_are : edges (graph_of offsets targets flags) ≡ length targets
     unfolding edges graph_of graph
     edges_are = sum_to (length flags) (le_refl _) ∙ w.last
+
+-- what a `Graph` knows of its rows, for its methods
+module _ (offsets targets flags : List ℕ) (t : is_graph offsets targets flags ≡ true) where
+  pub offsets_long : length offsets ≡ length flags + 1
+  offsets_long = (words_are offsets targets flags t).count
+
+  pub row_rises : (s : ℕ) → s < length flags → get_or offsets s 0 ≤ get_or offsets (s + 1) 0
+  row_rises = (words_are offsets targets flags t).rising
+
+  pub row_ends : (s : ℕ) → s < length flags → get_or offsets (s + 1) 0 ≤ length targets
+  row_ends s h = offset_inside offsets targets flags (words_are offsets targets flags t) (s + 1) (omega arith)
+
+  abbrev In : ℕ → Type 0
+  In x = x < length flags
+
+  targets_below : All In targets
+  targets_below k d h = grind (arith, get_or_default_zero, (words_are offsets targets flags t).inside k h)
+
+  pub row_below : (from count : ℕ) → All (λ x. x < length flags) (take count (drop from targets))
+  row_below from count = All-take In count (drop from targets) (All-drop In from targets targets_below)
+
+pub ruleset rows = (offsets_long, row_rises, row_ends, row_below)

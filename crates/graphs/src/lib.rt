@@ -2,11 +2,13 @@
 #![tactic(auto)]
 
 mod checks;
+mod graph;
 
 ghost use Rattle.std.specs.Prelude.{◌≡◌};
 ghost use Rattle.graphs.specs.Words.{is_graph};
 
 use checks::{all_below, never_falling, none_twice, offsets_span, sizes_fit};
+pub use graph::Graph;
 
 // The most states and transitions that a graph has.
 pub const MOST_STATES: usize = 4096;
