@@ -19,12 +19,12 @@ use Rattle.pairs.proofs.Chain.{chain_none}
 use Rattle.lines.proofs.Labels.{label_long}
 use Rattle.lines.proofs.Pieces.{ended_inside}
 use Rattle.lines.proofs.Records.{state_label, state_place}
-use Rattle.statelist.specs.declared.Reading.{Reading}
-use Rattle.statelist.specs.declared.Reading.TheVariants.{NoForm, DeclaredTwice, NoStateRoom}
+use Rattle.statelist.specs.declared.ReadError.{ReadError}
+use Rattle.statelist.specs.declared.ReadError.TheVariants.{NoForm, DeclaredTwice, NoStateRoom}
 use Rattle.text.specs.Text.{State, declared, refused}
-use Rattle.text.specs.Lists.{refusal, zeros, padded}
+use Rattle.text.specs.Lists.{zeros, padded}
 use Rattle.text.proofs.Zeros.{padded_is}
-use Rattle.statelist.specs.Told.{told}
+use Rattle.statelist.specs.Told.{error_number, error_line}
 use Rattle.statelist.specs.Loops.{states_in, from_here, Blank, Refused, room_for, Declared}
 use Rattle.statelist.proofs.Here.{StateHere, state_bad, state_twice, state_full, state_more}
 use Rattle.statelist.proofs.Index.{label_unknown, label_known, asked_not, index_none, states_more, index_more}
@@ -76,16 +76,16 @@ module _ {text : List ℕ} {held : ℕ} {flags places first second head next : L
   number_is : suc (length states + 0) ≡ n + 1
   number_is = let k = states_long text flags places n in omega arith
 
-  refuse : (r : Reading) (t number : ℕ) → told r ≡ refusal number (n + 1)
-      → from_here (room_for held t) text at states [] ≡ refused number (suc (length states + 0))
-      → Refused r (from_here (room_for held t) text 0 [] [])
-  refuse r t number tells e =
-      record { number = number; line = n + 1; tells = tells; is = sym (d.same t) ∙ e ∙ ap (refused number) number_is }
+  refuse : (error : ReadError) (t : ℕ) → from_here (room_for held t) text at states [] ≡ refused (error_number error) (suc (length states + 0))
+      → error_line error ≡ n + 1 → Refused error (from_here (room_for held t) text 0 [] [])
+  refuse error t e line_is =
+      let line : suc (length states + 0) ≡ error_line error = omega (arith, states_long text flags places n, line_is) in
+      sym (d.same t) ∙ e ∙ ap (refused (error_number error)) line
 
   pub stop_bad : at < length text → get_or text at 0 ≡ 83 → state_found at (drop at text) ≡ NoState → (t : ℕ)
       → Refused (NoForm (n + 1)) (from_here (room_for held t) text 0 [] [])
   stop_bad h letter e t =
-      refuse (NoForm (n + 1)) t 2 refl (state_bad (room_for held t) text at states h letter e)
+      refuse (NoForm (n + 1)) t (state_bad (room_for held t) text at states h letter e) refl
 
   module _ {l : Label} {flag after : ℕ} (here : StateHere (drop at text) at l flag after) where
     abbrev label : List ℕ
@@ -99,8 +99,9 @@ module _ {text : List ℕ} {held : ℕ} {flags places first second head next : L
     unfolding label_of
     stop_twice i e t =
         let known = label_known d.index label is_label_lem flags i (rw here.label_is at e) in
-        refuse (DeclaredTwice (n + 1)) t 3 refl
+        refuse (DeclaredTwice (n + 1)) t
         (state_twice (room_for held t) text at states here known)
+        refl
 
     module _ (none : found (is_pair first second l.first l.second) n ≡ Nothing) where
       none' : found (is_pair first second (first_word label) (second_word label)) n ≡ Nothing
@@ -112,9 +113,10 @@ module _ {text : List ℕ} {held : ℕ} {flags places first second head next : L
 
       pub stop_full : held ≤ n → (t : ℕ) → Refused (NoStateRoom (n + 1)) (from_here (room_for held t) text 0 [] [])
       stop_full h t =
-          refuse (NoStateRoom (n + 1)) t 6 refl
+          refuse (NoStateRoom (n + 1)) t
           (state_full (room_for held t) text at states here unknown
           (rw (states_long text flags places n) h))
+          refl
 
       declared_more : n < held → held ≤ length flags → 2 * held ≤ length places
           → held ≤ length first → held ≤ length second → held ≤ length next

@@ -12,8 +12,10 @@ use Rattle.graphs.specs.Lists.{tab}
 use Rattle.graphs.specs.Words.{most_states, most_transitions}
 use Rattle.graphs.proofs.Tab.{tab_more}
 use Rattle.text.proofs.Nil.{nil_none, nil_some}
-use Rattle.statelist.specs.declared.Reading.{Reading}
-use Rattle.statelist.specs.declared.Reading.TheVariants.{Graph, TooLong, NoState}
+use Rattle.std.proofs.Common.{Result, Ok, Err}
+use Rattle.statelist.specs.declared.Size.{Size}
+use Rattle.statelist.specs.declared.ReadError.{ReadError}
+use Rattle.statelist.specs.declared.ReadError.TheVariants.{TooLong, NoState}
 use Rattle.text.specs.Text.{State, Transition, Rooms, Seen, Meaning, reads, refused, is_nil, at_end, most_text, meaning}
 use Rattle.text.specs.Lists.{zeros, padded, flags_of, places_of, targets_of, offsets_of, filled, rooms_of, outcome}
 use Rattle.statelist.specs.Told.{comes}
@@ -91,16 +93,16 @@ module _ {text : List ℕ} {held held_t : ℕ} {flags places first second head n
       sym (l.same flags places held d.index ∙ d.same held_t)
       ∙ end_here (room_for held held_t) text at states ts end
 
-  pub ends_none : n ≡ 0 → (offsets targets : List ℕ) → Fills offsets targets flags places NoState (from_here (room_for held held_t) text 0 [] [])
+  pub ends_none : n ≡ 0 → (offsets targets : List ℕ) → Fills offsets targets flags places (Err NoState) (from_here (room_for held held_t) text 0 [] [])
   unfolding at_end is_nil
   ends_none none offsets targets =
       let means : from_here (room_for held held_t) text 0 [] [] ≡ refused 8 0 =
       ends ∙ rw (nil_none states (states_long text flags places n ∙ none)) in
-      subst (Fills offsets targets flags places NoState) (sym means) refl
+      subst (Fills offsets targets flags places (Err NoState)) (sym means) refl
 
   pub ends_graph : 0 < n → (offsets targets : List ℕ) → n ≤ length flags → 2 * n ≤ length places
       → offsets ≡ padded (length offsets) (offsets_of n ts) → targets ≡ padded (length targets) (targets_of n ts)
-      → Fills offsets targets flags places (Graph n e) (from_here (room_for held held_t) text 0 [] [])
+      → Fills offsets targets flags places (Ok (record { states = n; transitions = e })) (from_here (room_for held held_t) text 0 [] [])
   unfolding at_end is_nil
   ends_graph some offsets targets in_flags in_places offsets_are targets_are =
       let flags_are : flags ≡ padded (length flags) (flags_of states) =
@@ -110,7 +112,7 @@ module _ {text : List ℕ} {held held_t : ℕ} {flags places first second head n
       blank_padded places (2 * n) in_places d.places_blank ∙ ap (padded (length places)) (sym places_all) in
       let means : from_here (room_for held held_t) text 0 [] [] ≡ reads all_seen =
       ends ∙ rw (nil_some states (omega (arith, states_long text flags places n))) in
-      subst (Fills offsets targets flags places (Graph n e)) (sym means)
+      subst (Fills offsets targets flags places (Ok (record { states = n; transitions = e }))) (sym means)
       (rw (states_long text flags places n, transitions_long from to e) cc)
 
 -- what the lists of the graph are built from
@@ -131,22 +133,22 @@ listed_buildable l few_n few_held in_offsets in_targets in_from in_to blank =
       blank = blank;
     }
 
-pub refused_fills : (offsets targets flags places : List ℕ) (r : Reading) (means : Meaning) → Refused r means
-    → Fills offsets targets flags places r means
-refused_fills offsets targets flags places r means x = subst (Fills offsets targets flags places r) (sym x.is) x.tells
+pub refused_fills : (offsets targets flags places : List ℕ) (error : ReadError) (means : Meaning) → Refused error means
+    → Fills offsets targets flags places (Err error) means
+refused_fills offsets targets flags places error means x = subst (Fills offsets targets flags places (Err error)) (sym x) refl
 
 -- the T lines are refused
-pub stop_closes : (text : List ℕ) (held n start : ℕ) (first second head next offsets targets : List ℕ) (r : Reading)
+pub stop_closes : (text : List ℕ) (held n start : ℕ) (first second head next offsets targets : List ℕ) (error : ReadError)
     → ((flags places : List ℕ) (h : ℕ) → Index text places first second head next n
-    → Refused r (from_here (room_for h held) text start (states_in text flags places n) []))
-    → Closes text held n start first second head next offsets targets r
-stop_closes text held n start first second head next offsets targets r stop h flags places d in_flags in_places =
-    subst (Fills offsets targets flags places r) (d.same held) (refused_fills offsets targets flags places r _ (stop flags places h d.index))
+    → Refused error (from_here (room_for h held) text start (states_in text flags places n) []))
+    → Closes text held n start first second head next offsets targets (Err error)
+stop_closes text held n start first second head next offsets targets error stop h flags places d in_flags in_places =
+    refused_fills offsets targets flags places error _ (sym (d.same held) ∙ stop flags places h d.index)
 
 -- the T lines are read
 module _ {text : List ℕ} {held n start : ℕ} {first second head next counted from to last prev : List ℕ} {at e : ℕ}
     (l : Listed text held n start first second head next counted from to last prev at e) (end : length text ≤ at) where
-  pub closed_closes : (offsets targets : List ℕ) (r : Reading) → Closed n e (transitions_in from to e) offsets targets r
+  pub closed_closes : (offsets targets : List ℕ) (r : Result Size ReadError) → Closed n e (transitions_in from to e) offsets targets r
       → Closes text held n start first second head next offsets targets r
   closed_closes offsets targets r (inl none) h flags places d in_flags in_places = rw none.1 (ends_none d l end none.0 offsets targets)
   closed_closes offsets targets r (inr some) h flags places d in_flags in_places =
@@ -162,43 +164,43 @@ unfolding meaning from_here
 not_long rooms text h = rw (le-ltb _ _ h)
 
 module _ (o t f p : ℕ) (text : List ℕ) where
-  pub comes_long : most_text < length text → comes TooLong (zeros o) (zeros t) (zeros f) (zeros p) ≡ outcome o t f p text
+  pub comes_long : most_text < length text → comes (Err TooLong) (zeros o) (zeros t) (zeros f) (zeros p) ≡ outcome o t f p text
   unfolding outcome
   comes_long h = ap (filled o t f p) (sym (too_long (rooms_of o t f p) text h))
 
   module _ (offsets targets flags places : List ℕ) (short : length text ≤ most_text) where
     -- a graph: the lists stay as they are
     pub comes_graph : (n e : ℕ) → length offsets ≡ o → length targets ≡ t → length flags ≡ f → length places ≡ p
-        → Fills offsets targets flags places (Graph n e) (from_here (rooms_of o t f p) text 0 [] [])
-        → comes (Graph n e) offsets targets flags places ≡ outcome o t f p text
+        → Fills offsets targets flags places (Ok (record { states = n; transitions = e })) (from_here (rooms_of o t f p) text 0 [] [])
+        → comes (Ok (record { states = n; transitions = e })) offsets targets flags places ≡ outcome o t f p text
     unfolding outcome
     comes_graph n e eo et ef ep fills =
         rw (not_long (rooms_of o t f p) text short)
         (go (from_here (rooms_of o t f p) text 0 [] []) fills ∙ rw (eo, et, ef, ep))
       where
-        go : (means : Meaning) → Fills offsets targets flags places (Graph n e) means
-            → comes (Graph n e) offsets targets flags places ≡ filled (length offsets) (length targets) (length flags) (length places) means
+        go : (means : Meaning) → Fills offsets targets flags places (Ok (record { states = n; transitions = e })) means
+            → comes (Ok (record { states = n; transitions = e })) offsets targets flags places ≡ filled (length offsets) (length targets) (length flags) (length places) means
         go (reads seen) is = is
         go (refused number line) is = absurd (let z : ◌≡◌ {A = ℕ} 0 1 = cc in omega arith)
 
     -- a refusal: all words are 0
-    comes_refused : (r : Reading) → ((n e : ℕ) → r ≢ Graph n e)
-        → Fills offsets targets flags places r (from_here (rooms_of o t f p) text 0 [] [])
-        → comes r (zeros o) (zeros t) (zeros f) (zeros p) ≡ outcome o t f p text
+    comes_refused : (error : ReadError) → Fills offsets targets flags places (Err error) (from_here (rooms_of o t f p) text 0 [] [])
+        → comes (Err error) (zeros o) (zeros t) (zeros f) (zeros p) ≡ outcome o t f p text
     unfolding outcome
-    comes_refused r no_graph fills = rw (not_long (rooms_of o t f p) text short) (go (from_here (rooms_of o t f p) text 0 [] []) fills)
+    comes_refused error fills = rw (not_long (rooms_of o t f p) text short) (go (from_here (rooms_of o t f p) text 0 [] []) fills)
       where
-        go : (means : Meaning) → Fills offsets targets flags places r means → comes r (zeros o) (zeros t) (zeros f) (zeros p) ≡ filled o t f p means
-        go (reads seen) is = absurd (no_graph _ _ (told_one r (Graph _ _) (ap (λ out. out.tells) is)))
+        go : (means : Meaning) → Fills offsets targets flags places (Err error) means
+            → comes (Err error) (zeros o) (zeros t) (zeros f) (zeros p) ≡ filled o t f p means
+        go (reads seen) is = let tells = ap (λ out. out.tells) is in absurd (let z : ◌≡◌ {A = ℕ} 0 1 = cc in omega arith)
         go (refused number line) is = rw is
 
     -- the same of the lists that the second clearing leaves, where those of the first had these lengths
-    pub comes_cleared : {o' t' f' p' : ℕ} {offsets' targets' flags' places' : List ℕ} (r : Reading) → ((n e : ℕ) → r ≢ Graph n e)
-        → Fills offsets targets flags places r (from_here (rooms_of o' t' f' p') text 0 [] [])
+    pub comes_cleared : {o' t' f' p' : ℕ} {offsets' targets' flags' places' : List ℕ} (error : ReadError)
+        → Fills offsets targets flags places (Err error) (from_here (rooms_of o' t' f' p') text 0 [] [])
         → (offsets' ≡ zeros (length offsets)) × (targets' ≡ zeros (length targets)) × (flags' ≡ zeros (length flags))
         × (places' ≡ zeros (length places))
         → length offsets ≡ o' → length targets ≡ t' → length flags ≡ f' → length places ≡ p' → o' ≡ o → t' ≡ t → f' ≡ f → p' ≡ p
-        → comes r offsets' targets' flags' places' ≡ outcome o t f p text
-    comes_cleared r no_graph fills cleared o_same t_same f_same p_same o_is t_is f_is p_is =
+        → comes (Err error) offsets' targets' flags' places' ≡ outcome o t f p text
+    comes_cleared error fills cleared o_same t_same f_same p_same o_is t_is f_is p_is =
         rw (cleared.0, cleared.1, cleared.2, cleared.3, o_same, t_same, f_same, p_same, o_is, t_is, f_is, p_is)
-        (comes_refused r no_graph (rw (o_is, t_is, f_is, p_is) at fills))
+        (comes_refused error (rw (o_is, t_is, f_is, p_is) at fills))

@@ -10,16 +10,17 @@ use Rattle.text.specs.Labels.{label_at}
 use Rattle.text.proofs.Filled.{states_fit, transitions_fit, meaning_graph, offsets_first, targets_first, flags_first}
 use Rattle.text.proofs.Labels.{label_within, labels_differ}
 use Rattle.text.proofs.Told.{Was, was}
-use Rattle.statelist.specs.declared.Reading.TheVariants.{Graph}
+use Rattle.std.proofs.Common.{Ok}
+use Rattle.statelist.specs.declared.Size.{Size}
 use Rattle.statelist.specs.Told.{comes}
 
 cut_same : {k k' : ℕ} {l l' m : List ℕ} → k ≡ k' → l ≡ l' → take k' l' ≡ m → take k l ≡ m
 cut_same {k} {k'} {l} {l'} {m} e q first = rw (e, q) first
 
 module _ (o t f p : ℕ) (text : List ℕ) (n e : ℕ) (offsets targets flags places : List ℕ)
-    (comes_so : comes (Graph n e) offsets targets flags places ≡ outcome o t f p text) where
-  abbrev w : Was o t f p text n e (comes (Graph n e) offsets targets flags places)
-  w = was o t f p text n e (comes (Graph n e) offsets targets flags places) refl comes_so
+    (comes_so : comes (Ok (record { states = n; transitions = e })) offsets targets flags places ≡ outcome o t f p text) where
+  abbrev w : Was o t f p text n e (comes (Ok (record { states = n; transitions = e })) offsets targets flags places)
+  w = was o t f p text n e (comes (Ok (record { states = n; transitions = e })) offsets targets flags places) refl comes_so
 
   -- the lists have N + 1, E and N words
   pub read_fits : (n + 1 ≤ o) × (e ≤ t) × (n ≤ f)

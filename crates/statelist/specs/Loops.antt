@@ -1,6 +1,6 @@
 -- What the private loops of src/ ask and promise. No public contract cites this page. What was read so far stands in the lent lists and in the
 -- text, and what is left of the reading is said by the page `Text` of `text`.
-use Rattle.std.specs.Prelude.{ℕ, suc, ◌+◌, ◌*◌, ◌<◌, ◌≤◌, ◌≡◌, true, List, [], ◌⊎◌, ◌≢◌, length, get_or, drop}
+use Rattle.std.specs.Prelude.{ℕ, suc, ◌+◌, ◌*◌, ◌<◌, ◌≤◌, ◌≡◌, true, List, [], ◌⊎◌, ◌≢◌, length, get_or, drop, Result, Ok, Err}
 use Rattle.graphs.specs.Lists.{tab}
 use Rattle.lines.specs.Line.{pieces, is_label}
 use Rattle.lines.specs.Found.{first_word, second_word, state_found, transition_found}
@@ -11,10 +11,11 @@ use Rattle.pairs.specs.declared.Found.TheVariants.{At, Nothing}
 use Rattle.pairs.specs.Pairs.{is_pair, found, Chain}
 use Rattle.text.specs.Text.{State, Transition, Rooms, Meaning, reads, refused, read_lines}
 use Rattle.text.specs.Lists.{refusal, padded, targets_from, targets_of, offsets_of, filled}
-use Rattle.statelist.specs.Told.{told, comes}
+use Rattle.statelist.specs.Told.{error_number, error_line, told, comes}
 use Rattle.text.specs.Labels.{label_at}
-use Rattle.statelist.specs.declared.Reading.{Reading}
-use Rattle.statelist.specs.declared.Reading.TheVariants.{Graph, NoState}
+use Rattle.statelist.specs.declared.Size.{Size}
+use Rattle.statelist.specs.declared.ReadError.{ReadError}
+use Rattle.statelist.specs.declared.ReadError.TheVariants.{NoState}
 use Rattle.statelist.specs.declared.went.Went.{Went}
 use Rattle.statelist.specs.declared.went.Went.TheVariants.{On, Stop}
 use Rattle.statelist.specs.declared.states.NextState.{NextState}
@@ -50,12 +51,9 @@ pub record Index (text places first second head next : List ℕ) (n : ℕ) : Typ
 abbrev pub Blank : List ℕ → ℕ → Type 0
 Blank l n = (i : ℕ) → n ≤ i → get_or l i 0 ≡ 0
 
--- the reading is refused, and that is what the text means
-pub record Refused (r : Reading) (means : Meaning) : Type 0 where
-  pub number : ℕ
-  pub line : ℕ
-  pub tells : told r ≡ refusal number line
-  pub is : means ≡ refused number line
+-- the refusal is what the text means
+abbrev pub Refused : ReadError → Meaning → Type 0
+Refused error means = means ≡ refused (error_number error) (error_line error)
 
 -- rooms that hold so many states, and t transitions
 abbrev pub room_for : ℕ → ℕ → Rooms
@@ -126,20 +124,20 @@ TransitionsRead text held n start first second head next offsets from to last pr
     → Refused r (from_here (room_for h held) text start (states_in text flags places n) [])
 
 -- what comes of the lists once the text is read: if it is refused, they may be left in any state
-abbrev pub Fills : (offsets targets flags places : List ℕ) → Reading → Meaning → Type 0
+abbrev pub Fills : (offsets targets flags places : List ℕ) → Result Size ReadError → Meaning → Type 0
 Fills offsets targets flags places r (reads seen) =
     comes r offsets targets flags places ≡ filled (length offsets) (length targets) (length flags) (length places) (reads seen)
 Fills offsets targets flags places r (refused number line) = told r ≡ refusal number line
 
 -- the end of a reading: no state, or the lists of the graph
-abbrev pub Closed : (n e : ℕ) → List Transition → (offsets targets : List ℕ) → Reading → Type 0
+abbrev pub Closed : (n e : ℕ) → List Transition → (offsets targets : List ℕ) → Result Size ReadError → Type 0
 Closed n e transitions offsets targets r =
-    ((n ≡ 0) × (r ≡ NoState))
-    ⊎ ((0 < n) × (r ≡ Graph n e)
+    ((n ≡ 0) × (r ≡ Err NoState))
+    ⊎ ((0 < n) × (r ≡ Ok (record { states = n; transitions = e }))
     × (offsets ≡ padded (length offsets) (offsets_of n transitions)) × (targets ≡ padded (length targets) (targets_of n transitions)))
 
 -- what comes of the T lines, whatever was done for the S lines
-abbrev pub Closes : (text : List ℕ) (held n start : ℕ) (first second head next offsets targets : List ℕ) → Reading → Type 0
+abbrev pub Closes : (text : List ℕ) (held n start : ℕ) (first second head next offsets targets : List ℕ) → Result Size ReadError → Type 0
 Closes text held n start first second head next offsets targets r =
     (h : ℕ) (flags places : List ℕ) → Declared text h flags places first second head next start n → n ≤ length flags → 2 * n ≤ length places
     → Fills offsets targets flags places r (from_here (room_for h held) text 0 [] [])

@@ -9,12 +9,12 @@ ghost use Rattle.statelist.specs.Build.{Buildable, Counts};
 ghost use Rattle.lines.specs.Bytes.{kind_table};
 ghost use Rattle.pairs.specs.Pairs.{Chain};
 
-use crate::Reading;
 use crate::lists::build;
 use crate::rooms::{states_held, transitions_held};
 use crate::states::read_states;
 use crate::transitions::read_transitions;
 use crate::went::Went;
+use crate::{ReadError, Size};
 use lines::kind_table;
 
 #[tactic(auto, unfolding(text::specs::Lists::rooms_of))]
@@ -24,7 +24,7 @@ pub fn fill_all(
     flags: &mut [u16],
     places: &mut [u32],
     text: &[u8],
-) -> Reading
+) -> Result<Size, ReadError>
     requires { (length text.now ≤ most_text)
         × (offsets.old ≡ zeros (length offsets.old)) × (targets.old ≡ zeros (length targets.old))
         × (flags.old ≡ zeros (length flags.old)) × (places.old ≡ zeros (length places.old)) }
@@ -49,7 +49,7 @@ pub fn fill_all(
         &mut head,
         &mut next,
     ) {
-        Went::Stop(refusal) => refusal,
+        Went::Stop(error) => Err(error),
         Went::On { at, count } => fill_from(
             &kinds, text, at, count, &first, &second, &head, &next, offsets, targets,
         ),
@@ -68,7 +68,7 @@ fn fill_from(
     next: &[u16],
     offsets: &mut [u16],
     targets: &mut [u16],
-) -> Reading
+) -> Result<Size, ReadError>
     requires { (length text.now ≤ most_text) × (start ≤ length text.now) × (get_or text.now start 0 ≢ 83)
         × (n ≤ most_states) × (n ≤ length offsets.old - 1) × Chain first.now second.now head.now next.now n
         × (offsets.old ≡ zeros (length offsets.old)) × (targets.old ≡ zeros (length targets.old)) × (kinds.now ≡ kind_table) }
@@ -84,7 +84,7 @@ fn fill_from(
         kinds, text, start, n, held, first, second, head, next, offsets, &mut from, &mut to,
         &mut last, &mut prev,
     ) {
-        Went::Stop(refusal) => refusal,
+        Went::Stop(error) => Err(error),
         Went::On { at: _, count } => close(offsets, targets, &from, &to, count, n),
     }
 }
@@ -97,17 +97,17 @@ fn close(
     to: &[usize],
     e: usize,
     n: usize,
-) -> Reading
+) -> Result<Size, ReadError>
     requires { (0 < n → Buildable from.now to.now offsets.old targets.old e n)
         × Counts offsets.old (transitions_in from.now to.now e) }
     ensures { Closed n e (transitions_in from.now to.now e) offsets.new targets.new result }
 {
     if n == 0 {
-        return Reading::NoState;
+        return Err(ReadError::NoState);
     }
     build(offsets, targets, from, to, e, n);
-    Reading::Graph {
+    Ok(Size {
         states: n,
         transitions: e,
-    }
+    })
 }

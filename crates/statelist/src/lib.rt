@@ -18,10 +18,16 @@ use rooms::clear_all;
 // The most bytes that a text has.
 pub const MOST_TEXT: usize = 1048576;
 
-// What a text was read as: a graph, with its numbers of states and transitions, or a refusal, in the order of 01's numbers 1 to 8.
-#[derive(Drop)]
-pub enum Reading {
-    Graph { states: usize, transitions: usize },
+// The numbers of states and transitions of a text that is a graph.
+#[derive(Clone, Copy, Debug, PartialEq, Eq)]
+pub struct Size {
+    pub states: usize,
+    pub transitions: usize,
+}
+
+// Why a text is refused, in the order of 01's numbers 1 to 8.
+#[derive(Clone, Copy, Debug, PartialEq, Eq)]
+pub enum ReadError {
     TooLong,
     NoForm { line: usize },
     DeclaredTwice { line: usize },
@@ -39,26 +45,20 @@ pub fn read(
     flags: &mut [u16],
     places: &mut [u32],
     text: &[u8],
-) -> Reading
+) -> Result<Size, ReadError>
     ensures { comes result offsets.new targets.new flags.new places.new
         ≡ outcome (length offsets.old) (length targets.old) (length flags.old)
         (length places.old) text.now }
 {
     clear_all(offsets, targets, flags, places);
     if MOST_TEXT < text.len() {
-        return Reading::TooLong;
+        return Err(ReadError::TooLong);
     }
-    let reading = fill_all(offsets, targets, flags, places, text);
-    let Reading::Graph {
-        states,
-        transitions,
-    } = reading
-    else {
-        clear_all(offsets, targets, flags, places);
-        return reading;
-    };
-    Reading::Graph {
-        states,
-        transitions,
+    match fill_all(offsets, targets, flags, places, text) {
+        Ok(size) => Ok(size),
+        Err(error) => {
+            clear_all(offsets, targets, flags, places);
+            Err(error)
+        }
     }
 }

@@ -6,7 +6,7 @@ ghost use Rattle.pairs.specs.Pairs.{buckets, bucket_of, Chain};
 ghost use Rattle.text.specs.Text.{most_text};
 ghost use Rattle.statelist.specs.Loops.{Declared, StateNext, StatesRead};
 
-use crate::Reading;
+use crate::ReadError;
 use crate::went::Went;
 use lines::{Label, StateLine, state_line};
 use pairs::{Found, find, insert};
@@ -19,7 +19,7 @@ pub enum NextState {
         flag: u16,
         after: usize,
     },
-    Bad(Reading),
+    Bad(ReadError),
 }
 
 pub fn read_states(
@@ -101,13 +101,13 @@ fn next_state(
         next: after,
     } = state_line(kinds, text, at)
     else {
-        return NextState::Bad(Reading::NoForm { line: n + 1 });
+        return NextState::Bad(ReadError::NoForm { line: n + 1 });
     };
     let Found::Nothing = find(first, second, head, next, n, label.first, label.second) else {
-        return NextState::Bad(Reading::DeclaredTwice { line: n + 1 });
+        return NextState::Bad(ReadError::DeclaredTwice { line: n + 1 });
     };
     if held <= n {
-        return NextState::Bad(Reading::NoStateRoom { line: n + 1 });
+        return NextState::Bad(ReadError::NoStateRoom { line: n + 1 });
     }
     NextState::New { label, flag, after }
 }
