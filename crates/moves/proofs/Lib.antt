@@ -10,3 +10,4 @@ pub mod Stretch
 pub mod Parts
 pub mod Words
 pub mod Owned
+pub mod Stores
