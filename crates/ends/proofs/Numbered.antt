@@ -1,42 +1,37 @@
--- The outcome of a refusal tells its number, and what is told tells the outcome.
-use Prim.Native.Nat.{ℕ, ◌≤◌}
+-- What is told tells the outcome.
 use mathlib.Core.Path.{◌≡◌, refl, sym, ap, ◌∙◌}
-use mathlib.Core.Logic.{◌⊎◌, inl, inr, ◌≢◌}
-use native.Mathlib.Omega.{arith}
-use Rattle.graphs.proofs.Tests.{same?}
+use mathlib.Core.Bool.{cond}
+use Prim.Native.Nat.{ℕ}
+use lib.Dec.{eqb}
+use Rattle.std.specs.Prelude.{Result, Ok, Err}
+use Rattle.limits.specs.declared.RunError.{RunError}
+use Rattle.limits.specs.declared.RunError.TheVariants.{NoWorkers, NoGraph, RoomShort, LassoShort, NoSuchWorker}
 use Rattle.ends.specs.Told.{Told, told_cycle, told_none, told_undecided, told_refusal, told}
 use Rattle.ends.specs.declared.Outcome.{Outcome}
-use Rattle.ends.specs.declared.Outcome.TheVariants.{Cycle, None, Undecided, NoWorkers, NoGraph, RoomShort, LassoShort, NoSuchWorker}
-use Rattle.ends.specs.Ends.{refused_by}
+use Rattle.ends.specs.declared.Outcome.TheVariants.{Cycle, None, Undecided}
 
-pub refused_told : (k : ℕ) → 9 ≤ k → k ≤ 13 → told (refused_by k) ≡ told_refusal k 0
-unfolding refused_by
-refused_told k low high = go (same? k 9) (same? k 10) (same? k 11) (same? k 12)
-  where
-    go : (k ≡ 9) ⊎ (k ≢ 9) → (k ≡ 10) ⊎ (k ≢ 10) → (k ≡ 11) ⊎ (k ≢ 11) → (k ≡ 12) ⊎ (k ≢ 12) → told (refused_by k) ≡ told_refusal k 0
-    go (inl q) x y z = rw q
-    go (inr w) (inl q) y z = rw q
-    go (inr w) (inr x) (inl q) z = rw q
-    go (inr w) (inr x) (inr y) (inl q) = rw q
-    go (inr w) (inr x) (inr y) (inr z) = let q : k ≡ 13 = omega arith in rw q
+-- the refusal with 01's number
+abbrev error_of : ℕ → RunError
+error_of number =
+    cond (eqb number 9) NoWorkers
+    (cond (eqb number 10) NoGraph (cond (eqb number 11) RoomShort (cond (eqb number 12) LassoShort NoSuchWorker)))
 
 -- the outcome that is told
-abbrev untold : Told → Outcome
-untold (told_cycle stem loop used) = Cycle stem loop used
-untold (told_none used) = None used
-untold (told_undecided used) = Undecided used
-untold (told_refusal number line) = refused_by number
+abbrev untold : Told → Result Outcome RunError
+untold (told_cycle stem loop used) = Ok (Cycle stem loop used)
+untold (told_none used) = Ok (None used)
+untold (told_undecided used) = Ok (Undecided used)
+untold (told_refusal number line) = Err (error_of number)
 
-untold_told : (r : Outcome) → untold (told r) ≡ r
-unfolding refused_by
-untold_told (Cycle stem round used) = refl
-untold_told (None used) = refl
-untold_told (Undecided used) = refl
-untold_told NoWorkers = refl
-untold_told NoGraph = refl
-untold_told RoomShort = refl
-untold_told LassoShort = refl
-untold_told NoSuchWorker = refl
+untold_told : (r : Result Outcome RunError) → untold (told r) ≡ r
+untold_told (Ok (Cycle stem round used)) = refl
+untold_told (Ok (None used)) = refl
+untold_told (Ok (Undecided used)) = refl
+untold_told (Err NoWorkers) = refl
+untold_told (Err NoGraph) = refl
+untold_told (Err RoomShort) = refl
+untold_told (Err LassoShort) = refl
+untold_told (Err NoSuchWorker) = refl
 
-pub told_one : (r r' : Outcome) → told r ≡ told r' → r ≡ r'
+pub told_one : (r r' : Result Outcome RunError) → told r ≡ told r' → r ≡ r'
 told_one r r' e = sym (untold_told r) ∙ ap untold e ∙ untold_told r'

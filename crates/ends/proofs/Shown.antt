@@ -12,6 +12,7 @@ use Rattle.moves.specs.Room.{pile, span, stretch, stretch_at}
 use Rattle.moves.specs.Run.{cycle, below, down_to, stem_of, loop_of}
 use Rattle.moves.proofs.Stretch.{stretch_inside}
 use Rattle.moves.proofs.Words.{Seen, own_word, outer_at, inner_at, last_at, long}
+use Rattle.std.specs.Prelude.{Ok}
 use Rattle.ends.specs.Told.{told, tells_of, shown}
 use Rattle.ends.specs.Lasso.{Stacked, outer_depth, inner_depth, outer_words, inner_words, place_down, lasso_in, found_in}
 use Rattle.ends.proofs.Down.{place_below}
@@ -101,7 +102,7 @@ module _ (n P p : ℕ) (h : p < P) (m : Machine) (rest l : List ℕ) (seen : See
         let deep : length (o ++ i) ≡ length w.outer + (length w.inner - 1) = simp (length-append, length-drop, length-reverse) in
         rw (outer_words_lem, inner_words_lem, outer_depth_lem, inner_depth_lem, stem_loop, deep) (sym (append_assoc o i _))
 
-    pub found_told : (used : ℕ) → told (found_in n a x used l) ≡ tells_of (cycle (stem_of w x) (loop_of w x)) used
+    pub found_told : (used : ℕ) → told (Ok (found_in n a x used l)) ≡ tells_of (cycle (stem_of w x) (loop_of w x)) used
     unfolding found_in
     found_told used =
         let o = w.outer in

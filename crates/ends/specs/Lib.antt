@@ -1,4 +1,3 @@
--- The two ends of a run, in the order of reading: what a run tells and shows, the lasso read from the stacks, and the ends.
+-- What a run comes to, in the order of reading: what it tells and shows, and the lasso read from the stacks.
 pub mod Told
 pub mod Lasso
-pub mod Ends

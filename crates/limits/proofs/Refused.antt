@@ -1,18 +1,20 @@
--- Laws of `refusal_of`: the turn list counts last; no refusal means that all five checks passed; and the numbers are 9 to 13, each told as itself.
-use Prim.Native.Nat.{ℕ, ◌*◌, ◌<◌, ◌≤◌}
-use mathlib.Core.Path.{◌≡◌, refl}
+-- Laws of `refusal_of`: no refusal means that all five checks passed; and the numbers are 9 to 13, each told as itself.
+use Prim.Native.Nat.{ℕ, suc, ◌*◌, ◌<◌, ◌≤◌}
+use mathlib.Core.Path.{◌≡◌, refl, sym}
 use mathlib.Core.Bool.{Bool, true, false, cond, not}
-use mathlib.Core.List.{List, []}
+use mathlib.Core.List.{List, [], ◌∷◌}
 use mathlib.Core.Logic.{◌⊎◌, inl, inr}
 use lib.Dec.{eqb}
-use lib.ListN.{length}
+use lib.ListN.{length, get_or}
 use native.Mathlib.Omega.{arith}
-use borrow.Author.Tests.{leb-true, ltb-true}
+use borrow.Author.Tests.{leb-true, ltb-true, lt-ltb}
 use Rattle.graphs.specs.Lists.{all}
-use Rattle.graphs.specs.Words.{is_graph}
+use Rattle.std.specs.Prelude.{All, IsTrue, ◌↔◌}
+use Rattle.graphs.specs.Words.{is_graph, most_states}
+use Rattle.graphs.proofs.Words.{words_are}
 use Rattle.graphs.proofs.Member.{mem_place}
 use Rattle.graphs.proofs.Same.{all_at}
-use Rattle.graphs.proofs.Tests.{and_cases}
+use Rattle.graphs.proofs.Tests.{and_cases, clash, not_both}
 use Rattle.moves.specs.Room.{room_size}
 use Rattle.theory.specs.Turns.{Named}
 use Rattle.limits.specs.Refusals.{most_workers, workers_fit, room_fits, lasso_fits, turns_fit, refusal_of}
@@ -20,13 +22,6 @@ use Rattle.limits.specs.Refusals.{most_workers, workers_fit, room_fits, lasso_fi
 -- the five checks, in order
 abbrev first_of : (a b c d e : Bool) → ℕ
 first_of a b c d e = cond (not a) 9 (cond (not b) 10 (cond (not c) 11 (cond (not d) 12 (cond (not e) 13 0))))
-
-last_check : (a b c d e : Bool) → first_of a b c d e ≡ cond (eqb (first_of a b c d true) 0) (cond (not e) 13 0) (first_of a b c d true)
-last_check false b c d e = refl
-last_check true false c d e = refl
-last_check true true false d e = refl
-last_check true true true false e = refl
-last_check true true true true e = refl
 
 all_passed : (a b c d e : Bool) → first_of a b c d e ≡ 0 → (a ≡ true) × (b ≡ true) × (c ≡ true) × (d ≡ true) × (e ≡ true)
 all_passed false b c d e h = absurd (omega arith)
@@ -75,12 +70,6 @@ module _ (room lasso : ℕ) (turns offsets targets flags : List ℕ) (P : ℕ) w
   abbrev e : Bool
   e = turns_fit turns P
 
-  pub refusal_turns :
-      refusal_of room lasso turns offsets targets flags P
-      ≡ cond (eqb (refusal_of room lasso [] offsets targets flags P) 0) (cond (not e) 13 0) (refusal_of room lasso [] offsets targets flags P)
-  unfolding refusal_of all
-  refusal_turns = last_check a b c d e
-
   pub fine : refusal_of room lasso turns offsets targets flags P ≡ 0 → Fine room lasso turns offsets targets flags P
   unfolding refusal_of
   fine h =
@@ -100,3 +89,23 @@ module _ (room lasso : ℕ) (turns offsets targets flags : List ℕ) (P : ℕ) w
       ⊎ ((9 ≤ refusal_of room lasso turns offsets targets flags P) × (refusal_of room lasso turns offsets targets flags P ≤ 13))
   unfolding refusal_of
   refusal_low = first_low a b c d e
+
+-- what `check` knows where it asks for the room's size
+pub few_workers : (P : ℕ) → workers_fit P ≡ true → P ≤ most_workers
+few_workers P t = (workers_few P t).1
+
+pub few_states : (offsets targets flags : List ℕ) → is_graph offsets targets flags ≡ true → length flags ≤ most_states
+few_states offsets targets flags t = (words_are offsets targets flags t).few
+
+pub ruleset few = (few_workers, few_states)
+
+-- a test that holds at each place of a list
+all_of : (f : ℕ → Bool) (l : List ℕ) → ((i : ℕ) → i < length l → f (get_or l i 0) ≡ true) → all f l ≡ true
+unfolding all
+all_of f [] h = refl
+all_of f (x ∷ l) h = rw (h 0 (omega arith)) (all_of f l (λ i k. h (suc i) (omega arith)))
+
+-- from what an iterator finds of the turns to `turns_fit`
+pub fits_is : (r : Bool) (turns : List ℕ) (P : ℕ) → IsTrue r ↔ All (λ p. p < P) turns → r ≡ turns_fit turns P
+fits_is true turns P h = sym (all_of _ turns (λ i k. lt-ltb _ _ (h.0 refl i 0 k)))
+fits_is false turns P h = sym (not_both (λ e. clash (h.1 (λ i d k. ltb-true _ _ (all_at _ turns e i d k))) refl))

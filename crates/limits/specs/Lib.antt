@@ -1,2 +1,3 @@
--- Refusals 9 to 13.
+-- Who makes each turn, and refusals 9 to 13.
+pub mod Plans
 pub mod Refusals

@@ -1,11 +1,63 @@
-// Refusals 9 to 13, in 01's order: a run checks them before its first move.
+// Refusals 9 to 13, in 01's order: a run checks them before its first move. And which worker makes each turn.
 #![tactic(auto)]
 
-ghost use Rattle.std.specs.Prelude.{◌≡◌, [], ◌≤◌};
+ghost use Rattle.std.specs.Prelude.{◌≡◌, ◌≤◌, ◌<◌, MatchResult};
 ghost use Rattle.moves.specs.Room.{room_size};
-ghost use Rattle.limits.specs.Refusals.{most_workers, workers_fit, turns_fit, refusal_of, usual};
+ghost use Rattle.limits.specs.Plans.{listed, next_in};
+ghost use Rattle.limits.specs.Refusals.{most_workers, workers_fit, turns_fit, refusal_of, number_of, Passed, usual};
 
-use graphs::is_graph;
+use graphs::Graph;
+
+// Why a run is refused, with 01's number.
+#[derive(Clone, Copy, Debug, PartialEq, Eq)]
+pub enum RunError {
+    NoWorkers = 9,
+    NoGraph = 10,
+    RoomShort = 11,
+    LassoShort = 12,
+    NoSuchWorker = 13,
+}
+
+impl RunError {
+    pub fn number(self) -> u32
+        ensures { result ≡ number_of self }
+    {
+        self as u32
+    }
+}
+
+// Which worker makes each turn.
+#[derive(Clone, Copy)]
+pub enum Plan<'a> {
+    // the workers of this list, one after the other
+    Turns(&'a [u8]),
+    // 01: "turns 0, 1, .., P−1 repeated"
+    Rounds,
+}
+
+impl Plan<'_> {
+    // The worker of the turn after `used` turns, if there is one.
+    pub fn next(&self, workers: usize, used: usize) -> Option<usize>
+        requires { 0 < workers }
+        ensures { result ≡ next_in self.now workers used }
+    {
+        match self {
+            Plan::Turns(turns) => turns.get(used).map(|&worker| usize::from(worker)),
+            Plan::Rounds => Some(used % workers),
+        }
+    }
+
+    // Whether each turn of the list names a worker.
+    #[tactic(auto, unfolding(graphs::specs::Lists::all))]
+    fn fits(&self, workers: usize) -> bool
+        ensures { result ≡ turns_fit (listed self.now) workers }
+    {
+        match self {
+            Plan::Turns(turns) => turns.iter().all(|&worker| usize::from(worker) < workers),
+            Plan::Rounds => true,
+        }
+    }
+}
 
 // The most workers that a run has.
 pub const MOST_WORKERS: usize = 8;
@@ -13,10 +65,7 @@ pub const MOST_WORKERS: usize = 8;
 fn workers_fit(workers: usize) -> bool
     ensures { result ≡ workers_fit workers }
 {
-    if workers < 1 {
-        return false;
-    }
-    workers <= MOST_WORKERS
+    (1..=MOST_WORKERS).contains(&workers)
 }
 
 // The words of the room that a run needs.
@@ -27,68 +76,37 @@ pub fn room_size(n: usize, workers: usize) -> usize
     2 * n + workers * (5 * n + 4)
 }
 
-#[tactic(auto, unfolding(graphs::specs::Lists::all))]
-fn turns_fit(turns: &[u8], workers: usize) -> bool
-    ensures { result ≡ turns_fit turns.now workers }
-{
-    let mut i = 0;
-    while i < turns.len() {
-        if workers <= turns[i] as usize {
-            return false;
-        }
-        i += 1;
-    }
-    true
-}
-
-// 9 to 12, which every run checks: 01's number, or 0.
-#[tactic(auto, unfolding(crate::specs::Refusals::refusal_of, graphs::specs::Lists::all))]
-pub fn refusal_to_end(
+// The graph of a run that is not refused.
+#[tactic(auto, using(crate::proofs::Refused::few), unfolding(crate::specs::Refusals::refusal_of))]
+pub fn check<'a>(
     room: usize,
     lasso: usize,
-    offsets: &[u16],
-    targets: &[u16],
-    flags: &[u16],
+    plan: Plan<'_>,
+    offsets: &'a [u16],
+    targets: &'a [u16],
+    flags: &'a [u16],
     workers: usize,
-) -> u16
-    ensures { result ≡ refusal_of room lasso [] offsets.now targets.now flags.now workers }
+) -> Result<Graph<'a>, RunError>
+    ensures { MatchResult result
+        (λ g. Passed g room lasso (listed plan.entry) offsets.now targets.now flags.now workers)
+        (λ e. refusal_of room lasso (listed plan.entry) offsets.now targets.now flags.now workers
+        ≡ number_of e) }
 {
     if !workers_fit(workers) {
-        return 9;
+        return Err(RunError::NoWorkers);
     }
-    if !is_graph(offsets, targets, flags) {
-        return 10;
-    }
-    let n = flags.len();
+    let graph = Graph::new(offsets, targets, flags).ok_or(RunError::NoGraph)?;
+    let n = graph.states();
     if room < room_size(n, workers) {
-        return 11;
+        return Err(RunError::RoomShort);
     }
     if lasso < 2 * n {
-        return 12;
+        return Err(RunError::LassoShort);
     }
-    0
-}
-
-// And 13, of a turn list.
-pub fn refusal(
-    room: usize,
-    lasso: usize,
-    turns: &[u8],
-    offsets: &[u16],
-    targets: &[u16],
-    flags: &[u16],
-    workers: usize,
-) -> u16
-    ensures { result ≡ refusal_of room lasso turns.now offsets.now targets.now flags.now workers }
-{
-    let number = refusal_to_end(room, lasso, offsets, targets, flags, workers);
-    if number != 0 {
-        return number;
+    if !plan.fits(workers) {
+        return Err(RunError::NoSuchWorker);
     }
-    if !turns_fit(turns, workers) {
-        return 13;
-    }
-    0
+    Ok(graph)
 }
 
 // 01: "worker count 0 .. means the house's usual, two"

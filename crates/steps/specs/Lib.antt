@@ -1,3 +1,3 @@
--- In the order of reading: what a run has come to after a move, and where it stands between two turns.
+-- In the order of reading: what a run has come to after a move, and what a turn asks and promises.
 pub mod Verdict
-pub mod Standing
+pub mod Steps

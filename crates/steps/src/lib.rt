@@ -1,143 +1,65 @@
-// Where a run stands between two turns, and the move of the next one with what it brings.
+// One turn of a run: a worker's move, counted, and what the run has come to by it.
 #![tactic(auto)]
 
-mod played;
+ghost use Rattle.std.specs.Prelude.{◌≡◌, ◌≤◌, length};
+ghost use Rattle.moves.specs.Room.{room_size};
+ghost use Rattle.steps.specs.Verdict.{all_done_in, verdict_in};
+ghost use Rattle.steps.specs.Steps.{Due, Steps};
 
-ghost use Rattle.std.specs.Prelude.{◌≡◌, ◌≤◌};
-ghost use Rattle.steps.specs.Verdict.{is_open};
-ghost use Rattle.steps.specs.Standing.{standing_in, standing_on, followed, Ready, MovedIn, ReadyRound, MovedInRound};
+use graphs::Graph;
+use moves::{Move, Tally};
+use turn::turn;
 
-use moves::Move;
-use played::play;
-
-// What a run has come to: nothing yet, "none", "cycle" by worker and state taken, or a refusal.
-#[derive(Clone, Copy)]
-pub enum Stop {
-    Open,
+// What a run has come to.
+#[derive(Clone, Copy, Debug, PartialEq, Eq)]
+pub enum Verdict {
+    // every worker is done
     Quiet,
-    Found(u16, u16),
-    Refused(u16),
+    // the worker whose turn it was took this state, which closes a lasso
+    Found { state: u16 },
 }
 
-// Whether there is a turn to make, its worker (0 if there is none), the turns used, and what the run has come to.
-#[derive(Clone, Copy)]
-pub struct Standing {
-    pub going: bool,
-    pub next: usize,
-    pub used: usize,
-    pub stop: Stop,
-}
-
-// A move, and where the run stands after it.
-#[derive(Drop)]
-pub struct Moved {
-    pub made: Move,
-    pub standing: Standing,
-}
-
-fn is_open(stop: Stop) -> bool
-    ensures { result ≡ is_open stop }
+#[tactic(auto, unfolding(crate::specs::Verdict::all_done_in, graphs::specs::Lists::every))]
+fn all_done(room: &[u16], n: usize, workers: usize) -> bool
+    requires { room_size n workers ≤ length room.now }
+    ensures { result ≡ all_done_in n workers room.now }
 {
-    match stop {
-        Stop::Open => true,
-        Stop::Quiet => false,
-        Stop::Found(_, _) => false,
-        Stop::Refused(_) => false,
-    }
-}
-
-// In a turn list.
-#[tactic(auto, unfolding(crate::specs::Standing::standing_in))]
-pub fn standing_in(turns: &[u8], used: usize, stop: Stop) -> Standing
-    ensures { result ≡ standing_in turns.now used stop }
-{
-    if is_open(stop) {
-        if used < turns.len() {
-            return Standing {
-                going: true,
-                next: turns[used] as usize,
-                used,
-                stop,
-            };
+    for q in 0..workers {
+        if room[2 * n + q * (5 * n + 4) + 5 * n] != 4 {
+            return false;
         }
     }
-    Standing {
-        going: false,
-        next: 0,
-        used,
-        stop,
-    }
+    true
 }
 
-// In the rounds 0, 1, .., P − 1.
-#[tactic(auto, unfolding(crate::specs::Standing::standing_on))]
-pub fn standing_on(next: usize, used: usize, stop: Stop) -> Standing
-    ensures { result ≡ standing_on next used stop }
+// Read from the room after the move.
+fn verdict_after(room: &[u16], n: usize, workers: usize, made: Move) -> Option<Verdict>
+    requires { room_size n workers ≤ length room.now }
+    ensures { result ≡ verdict_in n workers made room.now }
 {
-    if is_open(stop) {
-        return Standing {
-            going: true,
-            next,
-            used,
-            stop,
-        };
+    if let Move::Hit(_, state) = made {
+        return Some(Verdict::Found { state });
     }
-    Standing {
-        going: false,
-        next: 0,
-        used,
-        stop,
+    if all_done(room, n, workers) {
+        return Some(Verdict::Quiet);
     }
+    None
 }
 
-// The worker after p.
-#[tactic(auto, unfolding(crate::specs::Standing::followed))]
-fn following(workers: usize, p: usize) -> usize
-    requires { p ≤ 65535 }
-    ensures { result ≡ followed workers p }
-{
-    if p + 1 < workers {
-        return p + 1;
-    }
-    0
-}
-
-// Makes the next turn's move.
-pub fn move_in_turns(
+// Makes worker p's move.
+pub fn step(
     room: &mut [u16],
-    turns: &[u8],
-    offsets: &[u16],
-    targets: &[u16],
-    flags: &[u16],
+    tally: &mut Tally,
+    graph: &Graph<'_>,
     workers: usize,
-    s: Standing,
-) -> Moved
-    requires { Ready offsets.now targets.now flags.now turns.now workers s room.old }
-    ensures { MovedIn offsets.now targets.now flags.now turns.now workers s
-        room.old result room.new }
+    p: usize,
+) -> Option<Verdict>
+    requires { Due graph.now.offsets.now graph.now.targets.now graph.now.flags.now workers p
+        room.old tally.old }
+    ensures { Steps graph.now.offsets.now graph.now.targets.now graph.now.flags.now workers p
+        room.old tally.old result room.new tally.new }
 {
-    let played = play(room, offsets, targets, flags, workers, s.next);
-    let made = played.made;
-    let stop = played.stop;
-    let standing = standing_in(turns, s.used + 1, stop);
-    Moved { made, standing }
-}
-
-pub fn move_in_round(
-    room: &mut [u16],
-    offsets: &[u16],
-    targets: &[u16],
-    flags: &[u16],
-    workers: usize,
-    s: Standing,
-) -> Moved
-    requires { ReadyRound offsets.now targets.now flags.now workers s room.old }
-    ensures { MovedInRound offsets.now targets.now flags.now workers s
-        room.old result room.new }
-{
-    let played = play(room, offsets, targets, flags, workers, s.next);
-    let made = played.made;
-    let stop = played.stop;
-    let standing = standing_on(following(workers, s.next), s.used + 1, stop);
-    Moved { made, standing }
+    let made = turn(room, graph.offsets, graph.targets, graph.flags, p);
+    *tally = tally.raised(made);
+    verdict_after(room, graph.states(), workers, made)
 }
