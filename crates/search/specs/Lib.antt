@@ -1,3 +1,3 @@
--- The two runs over lent words, in the order of reading: what a run leaves, and the turns with the tally.
+-- The two runs over lent words, in the order of reading: what a run leaves, and the run by a plan.
 pub mod Outcomes
-pub mod Turns
+pub mod Plans

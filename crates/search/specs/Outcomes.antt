@@ -1,11 +1,12 @@
 -- What a run leaves: what it tells, and every word that was lent to it.
-use Rattle.std.specs.Prelude.{ℕ, cond, List, [], ◌++◌, eqb, length, drop}
+use Rattle.std.specs.Prelude.{ℕ, cond, List, [], ◌++◌, eqb, length, drop, Result as Result·std}
 use Rattle.graphs.specs.Words.{graph_of}
 use Rattle.moves.specs.declared.Tally.{Tally}
 use Rattle.moves.specs.Room.{room_size}
 use Rattle.moves.specs.Run.{Result, run}
 use Rattle.theory.specs.Turns.{run_to_end}
 use Rattle.limits.specs.Refusals.{refusal_of, usual}
+use Rattle.limits.specs.declared.RunError.{RunError}
 use Rattle.ends.specs.declared.Outcome.{Outcome}
 use Rattle.ends.specs.Told.{Told, told_cycle, told_none, told_undecided, told_refusal, told, tells_of, shown}
 
@@ -15,7 +16,7 @@ pub record Lent : Type 0 where
   pub lasso : List ℕ
   pub tally : Tally
 
-abbrev pub lent : Outcome → List ℕ → List ℕ → Tally → Lent
+abbrev pub lent : Result·std Outcome RunError → List ℕ → List ℕ → Tally → Lent
 lent r room lasso t = record { tells = told r; room = room; lasso = lasso; tally = t }
 
 -- 01: "The working room holds the machine's state after the last move made"; "Words beyond the needed ones are unchanged."

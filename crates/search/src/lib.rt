@@ -1,20 +1,53 @@
 // The two runs of 01 over lent words: refusals 9 to 13, the moves by turns, and the lasso.
 #![tactic(auto)]
 
-mod turns;
-
-ghost use Rattle.std.specs.Prelude.{◌≡◌};
+ghost use Rattle.std.specs.Prelude.{◌≡◌, List};
 ghost use Rattle.moves.specs.Tally.{zeroes};
 ghost use Rattle.ends.specs.Told.{told};
 ghost use Rattle.search.specs.Outcomes.{lent, outcome, outcome_to_end, Settles};
+ghost use Rattle.search.specs.Plans.{outcome_by};
 
 pub use ends::Outcome;
-use ends::{finish, prepare, prepare_to_end};
-use limits::usual;
+use ends::show;
+pub use limits::{Plan, RunError};
+use limits::{check, room_size, usual};
 use moves::Tally;
-use turns::{over_rounds, over_turns, reset};
+use steps::{Verdict, step};
 
-// A run over a turn list, from the start. The room and the lasso room may be of any lengths and hold anything.
+// A run by a plan of turns, from the start. The room and the lasso room may be of any lengths and hold anything.
+fn over(
+    room: &mut [u16],
+    lasso: &mut [u16],
+    tally: &mut Tally,
+    plan: Plan<'_>,
+    offsets: &[u16],
+    targets: &[u16],
+    flags: &[u16],
+    workers: usize,
+) -> Result<Outcome, RunError>
+    ensures { lent result room.new lasso.new tally.new
+        ≡ outcome_by plan.entry offsets.now targets.now flags.now workers
+        room.old lasso.old tally.old }
+{
+    let graph = check(room.len(), lasso.len(), plan, offsets, targets, flags, workers)?;
+    let n = graph.states();
+    room[..room_size(n, workers)].fill(0);
+    *tally = Tally::default();
+    let mut used = 0;
+    while let Some(p) = plan.next(workers, used) {
+        let verdict = step(room, tally, &graph, workers, p);
+        used += 1;
+        match verdict {
+            Some(Verdict::Found { state }) => return Ok(show(room, lasso, n, p, state, used)),
+            Some(Verdict::Quiet) => return Ok(Outcome::None { used }),
+            None => {}
+        }
+    }
+    Ok(Outcome::Undecided { used })
+}
+
+// A run over a turn list.
+#[tactic(auto, unfolding(crate::specs::Outcomes::outcome))]
 pub fn run(
     room: &mut [u16],
     lasso: &mut [u16],
@@ -24,18 +57,16 @@ pub fn run(
     targets: &[u16],
     flags: &[u16],
     workers: usize,
-) -> Outcome
+) -> Result<Outcome, RunError>
     ensures { lent result room.new lasso.new tally.new
         ≡ outcome turns.now offsets.now targets.now flags.now workers
         room.old lasso.old tally.old }
 {
-    let s = prepare(room, lasso.len(), turns, offsets, targets, flags, workers);
-    reset(tally, s);
-    let e = over_turns(room, tally, turns, offsets, targets, flags, workers, s);
-    finish(room, lasso, flags, e)
+    over(room, lasso, tally, Plan::Turns(turns), offsets, targets, flags, workers)
 }
 
 // The run to the end: turns 0, 1, .., P − 1 repeated until there is an answer. 0 workers are the usual two.
+#[tactic(auto, using(crate::proofs::Runs::end_left))]
 pub fn run_to_end(
     room: &mut [u16],
     lasso: &mut [u16],
@@ -44,22 +75,18 @@ pub fn run_to_end(
     targets: &[u16],
     flags: &[u16],
     workers: usize,
-) -> Outcome
+) -> Result<Outcome, RunError>
     ensures { (lent result room.new lasso.new tally.new
         ≡ outcome_to_end offsets.now targets.now flags.now workers
         room.old lasso.old tally.old) × Settles (told result) }
 {
-    let p = usual(workers);
-    let s = prepare_to_end(room, lasso.len(), offsets, targets, flags, p);
-    reset(tally, s);
-    let e = over_rounds(room, tally, offsets, targets, flags, p, s);
-    finish(room, lasso, flags, e)
+    over(room, lasso, tally, Plan::Rounds, offsets, targets, flags, usual(workers))
 }
 
-// An outcome, with the tally of its run.
-#[derive(Drop)]
+// What a run came to, with its tally.
+#[derive(Clone, Copy, Debug, PartialEq, Eq)]
 pub struct Counted {
-    pub outcome: Outcome,
+    pub outcome: Result<Outcome, RunError>,
     pub tally: Tally,
 }
 
@@ -77,15 +104,8 @@ pub fn counted_run(
         ≡ outcome turns.now offsets.now targets.now flags.now workers
         room.old lasso.old zeroes }
 {
-    let mut tally = Tally {
-        outer: 0,
-        inner: 0,
-        waits: 0,
-        moves: 0,
-    };
-    let outcome = run(
-        room, lasso, &mut tally, turns, offsets, targets, flags, workers,
-    );
+    let mut tally = Tally::default();
+    let outcome = run(room, lasso, &mut tally, turns, offsets, targets, flags, workers);
     Counted { outcome, tally }
 }
 
@@ -101,12 +121,7 @@ pub fn counted_run_to_end(
         ≡ outcome_to_end offsets.now targets.now flags.now workers
         room.old lasso.old zeroes) × Settles (told result.outcome) }
 {
-    let mut tally = Tally {
-        outer: 0,
-        inner: 0,
-        waits: 0,
-        moves: 0,
-    };
+    let mut tally = Tally::default();
     let outcome = run_to_end(room, lasso, &mut tally, offsets, targets, flags, workers);
     Counted { outcome, tally }
 }

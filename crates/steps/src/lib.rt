@@ -59,7 +59,7 @@ pub fn step(
     ensures { Steps graph.now.offsets.now graph.now.targets.now graph.now.flags.now workers p
         room.old tally.old result room.new tally.new }
 {
-    let made = turn(room, graph.offsets, graph.targets, graph.flags, p);
+    let made = turn(room, graph, p);
     *tally = tally.raised(made);
     verdict_after(room, graph.states(), workers, made)
 }
