@@ -3,6 +3,7 @@ pub mod Tests
 pub mod Change
 pub mod Member
 pub mod Every
+pub mod Bridge
 pub mod Sum
 pub mod Tab
 pub mod Same

@@ -17,6 +17,7 @@ use Rattle.graphs.specs.Lists.{Mem, Once, sum, repeats}
 use Rattle.graphs.specs.Graph.{graph, edges, Sound}
 use Rattle.graphs.specs.Words.{successors, marked, graph_of, most_states, most_transitions, sizes_fit, offsets_span, never_falling, all_below}
 use Rattle.graphs.specs.Words.{none_twice, is_graph}
+use Rattle.graphs.specs.Stamps.{Fit}
 use Rattle.graphs.proofs.Tests.{and_cases, same?}
 use Rattle.graphs.proofs.Member.{mem_take, mem_drop, mem_place}
 use Rattle.graphs.proofs.Every.{every_at, every_of}
@@ -146,6 +147,19 @@ module _ (offsets targets flags : List ℕ) where
     unfolding edges graph_of graph
     edges_are = sum_to (length flags) (le_refl _) ∙ w.last
 
+-- what the parts checked before it say, as `none_twice` of src/checks.rt asks it
+pub fits : (offsets targets : List ℕ) (n e : ℕ) → e ≡ length targets → sizes_fit n e ≡ true → offsets_span offsets n e ≡ true
+    → never_falling offsets (length offsets - 1) ≡ true → all_below targets n ≡ true → Fit offsets targets n
+fits offsets targets n e whole sized spans rising below =
+    let span = span_are offsets n e spans in
+    record {
+      few = (sizes_are n e sized).1;
+      count = span.0;
+      last = span.2 ∙ whole;
+      rising = λ s h. rising_at offsets _ rising s (omega (arith, span.0));
+      inside = below_at targets n below;
+    }
+
 -- what a `Graph` knows of its rows, for its methods
 module _ (offsets targets flags : List ℕ) (t : is_graph offsets targets flags ≡ true) where
   pub offsets_long : length offsets ≡ length flags + 1
@@ -167,3 +181,6 @@ module _ (offsets targets flags : List ℕ) (t : is_graph offsets targets flags 
   row_below from count = All-take In count (drop from targets) (All-drop In from targets targets_below)
 
 pub ruleset rows = (offsets_long, row_rises, row_ends, row_below)
+
+-- what each check of src/lib.rt that passes lets the next one ask
+pub ruleset checked = (sizes_are, span_are, fits)

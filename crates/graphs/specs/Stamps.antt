@@ -11,15 +11,6 @@ pub record Fit (offsets targets : List ℕ) (n : ℕ) : Type 0 where
   pub rising : (s : ℕ) → s < n → get_or offsets s 0 ≤ get_or offsets (s + 1) 0
   pub inside : (k : ℕ) → k < length targets → get_or targets k 0 < n
 
--- the offsets of s and s + 1 bound a part of the targets, those are places of the table, and no place has the stamp of s or one above it
-pub record Ready (table offsets targets : List ℕ) (s : ℕ) : Type 0 where
-  pub small : s < most_states
-  pub count : s + 1 < length offsets
-  pub rises : get_or offsets s 0 ≤ get_or offsets (s + 1) 0
-  pub ends : get_or offsets (s + 1) 0 ≤ length targets
-  pub inside : (k : ℕ) → k < length targets → get_or targets k 0 < length table
-  pub fresh : (x : ℕ) → get_or table x 0 < s + 1
-
 -- the targets are places of the table, and no place has the stamp or one above it
 pub record Blank (table targets : List ℕ) (stamp : ℕ) : Type 0 where
   pub inside : (i : ℕ) → i < length targets → get_or targets i 0 < length table

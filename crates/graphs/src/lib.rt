@@ -16,26 +16,16 @@ pub const MOST_STATES: usize = 4096;
 pub const MOST_TRANSITIONS: usize = 16384;
 
 // 01: "Words are a graph if ..". Any words of any lengths; the time is in proportion to N + E.
-#[tactic(auto, unfolding(crate::specs::Words::is_graph))]
+#[tactic(auto, using(crate::proofs::Words::checked), unfolding(crate::specs::Words::is_graph))]
 pub fn is_graph(offsets: &[u16], targets: &[u16], flags: &[u16]) -> bool
     ensures { result ≡ is_graph offsets.now targets.now flags.now }
 {
     let n = flags.len();
     let e = targets.len();
-    if !sizes_fit(n, e) {
-        return false;
-    }
-    if !offsets_span(offsets, n, e) {
-        return false;
-    }
-    if !never_falling(offsets, n) {
-        return false;
-    }
-    if !all_below(targets, n) {
-        return false;
-    }
-    if !none_twice(offsets, targets, n) {
-        return false;
-    }
-    all_below(flags, 2)
+    sizes_fit(n, e)
+        && offsets_span(offsets, n, e)
+        && never_falling(offsets)
+        && all_below(targets, n)
+        && none_twice(offsets, targets, n)
+        && all_below(flags, 2)
 }

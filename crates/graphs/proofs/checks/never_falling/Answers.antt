@@ -1,13 +1,7 @@
--- `never_falling` meets its contract. The offsets up to s have not fallen.
-use Prim.Native.Nat.{◌+◌}
-use mathlib.Core.Path.{sym}
-use native.Mathlib.Omega.{arith}
-use lib.ListN.{get_or}
-use borrow.Author.Tests.{lt-leb}
-use Rattle.graphs.specs.Words.{never_falling}
-use Rattle.graphs.proofs.Every.{every_not}
+-- `never_falling` meets its contract.
+use Rattle.std.proofs.lemmas.List.Sorted.{non_decreasing_from_is_sorted}
+use Rattle.graphs.proofs.Bridge.{is_never_falling}
 use Rattle.graphs.proofs.checks.never_falling.Goals as goal
 
-pub returns-then-high-low : goal.returns-then-high-low
-unfolding never_falling
-returns-then-high-low c = sym (every_not _ _ _ c.loop-s-test.true (lt-leb (get_or c.args.offsets.now c.loop-s.s 0) (get_or c.args.offsets.now (c.loop-s.s + 1) 0) (omega arith)))
+pub returns : goal.returns
+returns c = is_never_falling _ _ (non_decreasing_from_is_sorted _ _ c.is_sorted.ensures.cases)
