@@ -3,181 +3,76 @@
 // The cases, and what has to be printed, are made by tests/texts.
 #![tactic(auto)]
 
-ghost use Rattle.std.specs.Prelude.{◌≡◌, ◌≤◌, length};
+use statelist::ReadError;
+use std::fmt::Display;
+use std::io::{self, BufRead};
 
-use statelist::Reading;
-
-// The most words that a case lends in one list.
-const MOST_LENT: usize = 64;
-
-fn main() {
-    let mut input = io::large_buffer();
-    let n = io::read_full(0, &mut input);
-    cases(&input[..n]);
-    long_texts();
-}
-
-fn cases(input: &[u8]) {
-    let mut at = 0;
-    while at < input.len() {
-        let end = find(input, at, 30);
-        case(&input[at..end]);
-        at = end + 1;
+fn main(rt: HostRuntime) -> io::Result<()> {
+    for case in rt.reader().split(rt.alloc(), 30) {
+        read_case(&rt, case?.as_slice())?;
     }
+    read_longest(&rt)
 }
 
-// Where b stands next, from `at` on; the length if nowhere.
-fn find(s: &[u8], at: usize, b: u8) -> usize
-    requires { at ≤ length s.now }
-    ensures { (at ≤ result) × (result ≤ length s.now) }
-{
-    let mut i = at;
-    while i < s.len() {
-        if s[i] == b {
-            return i;
-        }
-        i += 1;
-    }
-    i
-}
-
-fn case(s: &[u8]) {
-    if s.len() < 5 {
-        return;
-    }
-    let end = find(s, 5, b'\n');
-    if end == s.len() {
-        return;
-    }
-    io::write_all(1, &s[5..end]);
-    io::write_all(1, b"\n");
-    let text = end + 1;
-    lend(lent(s[0]), lent(s[1]), lent(s[2]), lent(s[3]), &s[text..]);
-}
-
-// How many words the byte l lends.
-fn lent(l: u8) -> usize
-    ensures { result ≤ 64 }
-{
-    if l < b'0' {
-        return 0;
-    }
-    let n = wide(l - b'0');
-    if n < MOST_LENT {
-        return n;
-    }
-    MOST_LENT
-}
-
-fn wide(x: u8) -> usize {
-    x as usize
-}
-
-// Lends o, t, f and p words, which are not 0, so that the output shows that they are cleared.
-fn lend(o: usize, t: usize, f: usize, p: usize, text: &[u8])
-    requires { (o ≤ 64) × (t ≤ 64) × (f ≤ 64) × (p ≤ 64) }
-{
-    let mut offsets = [7u16; MOST_LENT];
-    let mut targets = [7u16; MOST_LENT];
-    let mut flags = [7u16; MOST_LENT];
-    let mut places = [7u32; MOST_LENT];
-    run(
-        &mut offsets[..o],
-        &mut targets[..t],
-        &mut flags[..f],
-        &mut places[..p],
-        text,
-    );
-}
-
-fn run(
-    offsets: &mut [u16],
-    targets: &mut [u16],
-    flags: &mut [u16],
-    places: &mut [u32],
-    text: &[u8],
-) {
-    told(statelist::read(offsets, targets, flags, places, text));
-    words(b"offsets", offsets);
-    words(b"targets", targets);
-    words(b"flags", flags);
-    wide_words(b"places", places);
-}
-
-// 01's number of each refusal.
-fn told(reading: Reading) {
-    match reading {
-        Reading::Graph {
-            states,
-            transitions,
-        } => answer(b"graph", states, transitions),
-        Reading::TooLong => refused(1, 0),
-        Reading::NoForm { line } => refused(2, line),
-        Reading::DeclaredTwice { line } => refused(3, line),
-        Reading::NotDeclared { line } => refused(4, line),
-        Reading::PairTwice { line } => refused(5, line),
-        Reading::NoStateRoom { line } => refused(6, line),
-        Reading::NoTransitionRoom { line } => refused(7, line),
-        Reading::NoState => refused(8, 0),
-    }
-}
-
-fn refused(number: usize, line: usize) {
-    answer(b"refused", number, line);
-}
-
-fn answer(name: &[u8], a: usize, b: usize) {
-    io::write_all(1, name);
-    word(a as u64);
-    word(b as u64);
-    io::write_all(1, b"\n");
-}
-
-fn word(x: u64) {
-    io::write_all(1, b"\t");
-    io::print_decimal(1, x);
-}
-
-fn words(name: &[u8], list: &[u16]) {
-    io::write_all(1, name);
-    let mut i = 0;
-    while i < list.len() {
-        short_word(list[i]);
-        i += 1;
-    }
-    io::write_all(1, b"\n");
-}
-
-fn short_word(x: u16) {
-    word(x as u64);
-}
-
-fn wide_words(name: &[u8], list: &[u32]) {
-    io::write_all(1, name);
-    let mut i = 0;
-    while i < list.len() {
-        wide_word(list[i]);
-        i += 1;
-    }
-    io::write_all(1, b"\n");
-}
-
-fn wide_word(x: u32) {
-    word(x as u64);
+fn read_case(rt: &(impl Print + AllocGlobal), case: &[u8]) -> io::Result<()> {
+    let mut parts = case.splitn(2, |b| *b == b'\n');
+    let (Some([o, t, f, p, _, name @ ..]), Some(text)) = (parts.next(), parts.next()) else {
+        return Ok(());
+    };
+    rt.write_all(name)?;
+    println!(rt; "")?;
+    let lengths = [*o, *t, *f, *p].map(|l| usize::from(l.saturating_sub(b'0')));
+    read(rt, lengths, text)
 }
 
 // 01: "text over 1,048,576 bytes" is refusal 1. A line of so many `S` has none of the forms.
-fn long_texts() {
-    let text = long_text();
-    let n = 1048576;
-    io::write_all(1, b"1,048,576 bytes\n");
-    lend(3, 2, 2, 4, &text[..n]);
-    io::write_all(1, b"1,048,577 bytes\n");
-    lend(3, 2, 2, 4, &text);
+fn read_longest(rt: &(impl Print + AllocGlobal)) -> io::Result<()> {
+    let mut text = vec![in rt.alloc(); b'S'; 1048576]?;
+    println!(rt; "1,048,576 bytes")?;
+    read(rt, [3, 2, 2, 4], &text)?;
+    text.push(b'S')?;
+    println!(rt; "1,048,577 bytes")?;
+    read(rt, [3, 2, 2, 4], &text)
 }
 
-fn long_text() -> [u8; 1048577]
-    ensures { 1048577 ≡ length result }
-{
-    [b'S'; 1048577]
+// Lends lists of o, t, f and p words, which are not 0, so that the output shows that they are cleared.
+fn read(rt: &(impl Print + AllocGlobal), [o, t, f, p]: [usize; 4], text: &[u8]) -> io::Result<()> {
+    let alloc = rt.alloc();
+    let mut offsets = vec![in alloc; 7u16; o]?;
+    let mut targets = vec![in alloc; 7u16; t]?;
+    let mut flags = vec![in alloc; 7u16; f]?;
+    let mut places = vec![in alloc; 7u32; p]?;
+    match statelist::read(&mut offsets, &mut targets, &mut flags, &mut places, text) {
+        Ok(size) => println!(rt; "graph\t{}\t{}", size.states, size.transitions)?,
+        Err(error) => {
+            let (number, line) = refusal(error);
+            println!(rt; "refused\t{number}\t{line}")?;
+        }
+    }
+    list(rt, "offsets", &offsets)?;
+    list(rt, "targets", &targets)?;
+    list(rt, "flags", &flags)?;
+    list(rt, "places", &places)
+}
+
+// 01's number of each refusal, and its line.
+fn refusal(error: ReadError) -> (u8, usize) {
+    match error {
+        ReadError::TooLong => (1, 0),
+        ReadError::NoForm { line } => (2, line),
+        ReadError::DeclaredTwice { line } => (3, line),
+        ReadError::NotDeclared { line } => (4, line),
+        ReadError::PairTwice { line } => (5, line),
+        ReadError::NoStateRoom { line } => (6, line),
+        ReadError::NoTransitionRoom { line } => (7, line),
+        ReadError::NoState => (8, 0),
+    }
+}
+
+fn list<T: Display>(rt: &impl Print, name: &str, words: &[T]) -> io::Result<()> {
+    print!(rt; "{name}")?;
+    for word in words {
+        print!(rt; "\t{word}")?;
+    }
+    println!(rt; "")
 }
