@@ -1,4 +1,4 @@
-// Runs each method of `Place` on each place, and `Tally::raised` on each move, and prints what they give.
+// Runs the method of `Place` for each move on each place, and `Tally::raised` on each move, and prints what they give.
 #![tactic(auto)]
 
 use moves::{Move, Place, Tally};
