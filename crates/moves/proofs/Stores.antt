@@ -9,14 +9,14 @@ use lib.ListN.{length, get_or, set, replicate, length-set}
 use native.Mathlib.Omega.{arith}
 use native.Mathlib.Numerals.{add-one}
 use borrow.Author.Tests.{ne_eqb}
-use Rattle.graphs.specs.Lists.{upd, tab}
+use Rattle.graphs.specs.Lists.{upd}
 use Rattle.graphs.proofs.Tab.{tab_long, tab_word, tab_upd}
 use Rattle.moves.specs.Machine.{empty}
 use Rattle.moves.specs.Changes.{is_empty, only}
-use Rattle.moves.specs.Room.{bit, bits, pile}
+use Rattle.moves.specs.Room.{bit}
 use Rattle.moves.specs.Words.{IsSet, IsStack, IsCounts}
 use Rattle.moves.proofs.Bits.{bits_long, bits_upd, bits_empty, bits_only}
-use Rattle.moves.proofs.Pile.{pile_long, pile_push, pile_pop}
+use Rattle.moves.proofs.Pile.{pile_push, pile_pop}
 use Rattle.moves.proofs.Words.{bit_test, pile_top}
 
 depth_none : (u : List ℕ) → eqb (length u) 0 ≡ is_empty u

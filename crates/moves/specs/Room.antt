@@ -32,7 +32,10 @@ seed_word (Inner z) = z
 seed_word (Waiting z) = z
 seed_word Done = 0
 
--- the place with these two words
+-- the two words of a place, and the place with two words
+abbrev pub words_of : Place → List ℕ
+words_of q = kind_word q ∷ seed_word q ∷ []
+
 abbrev pub place_of : ℕ → ℕ → Place
 place_of k z = cond (eqb k 0) Fresh (cond (eqb k 1) Outer (cond (eqb k 2) (Inner z) (cond (eqb k 3) (Waiting z) Done)))
 

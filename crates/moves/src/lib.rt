@@ -4,15 +4,15 @@
 
 mod own;
 
-ghost use Rattle.std.specs.Prelude.{◌≡◌};
+ghost use Rattle.std.specs.Prelude.{◌≡◌, get_or};
 ghost use Rattle.moves.specs.Place.{started, left, seeded, backed, painted};
-ghost use Rattle.moves.specs.Room.{kind_word, seed_word, place_of};
-ghost use Rattle.moves.specs.Tally.{raised, entered, joined, waited, changed, Low};
+ghost use Rattle.moves.specs.Room.{words_of, place_of};
+ghost use Rattle.moves.specs.Tally.{raised, Low};
 
 pub use own::{Own, own_in};
 
 // 01: "not started, outer search, inner search with its seed, waiting with its seed, or done"
-#[derive(Clone, Copy)]
+#[derive(Clone, Copy, Debug, PartialEq, Eq)]
 pub enum Place {
     Fresh,
     Outer,
@@ -28,10 +28,7 @@ impl Place {
     {
         match self {
             Place::Fresh => Place::Outer,
-            Place::Outer => Place::Outer,
-            Place::Inner(s) => Place::Inner(s),
-            Place::Waiting(s) => Place::Waiting(s),
-            Place::Done => Place::Done,
+            place => place,
         }
     }
 
@@ -40,11 +37,8 @@ impl Place {
         ensures { result ≡ left self last }
     {
         match self {
-            Place::Fresh => Place::Fresh,
-            Place::Outer => { if last { Place::Done } else { Place::Outer } }
-            Place::Inner(s) => Place::Inner(s),
-            Place::Waiting(s) => Place::Waiting(s),
-            Place::Done => Place::Done,
+            Place::Outer if last => Place::Done,
+            place => place,
         }
     }
 
@@ -53,11 +47,8 @@ impl Place {
         ensures { result ≡ seeded self top }
     {
         match self {
-            Place::Fresh => Place::Fresh,
             Place::Outer => Place::Inner(top),
-            Place::Inner(s) => Place::Inner(s),
-            Place::Waiting(s) => Place::Waiting(s),
-            Place::Done => Place::Done,
+            place => place,
         }
     }
 
@@ -66,17 +57,8 @@ impl Place {
         ensures { result ≡ backed self last }
     {
         match self {
-            Place::Fresh => Place::Fresh,
-            Place::Outer => Place::Outer,
-            Place::Inner(s) => {
-                if last {
-                    Place::Waiting(s)
-                } else {
-                    Place::Inner(s)
-                }
-            }
-            Place::Waiting(s) => Place::Waiting(s),
-            Place::Done => Place::Done,
+            Place::Inner(seed) if last => Place::Waiting(seed),
+            place => place,
         }
     }
 
@@ -85,55 +67,41 @@ impl Place {
         ensures { result ≡ painted self last }
     {
         match self {
-            Place::Fresh => Place::Fresh,
-            Place::Outer => Place::Outer,
-            Place::Inner(s) => Place::Inner(s),
-            Place::Waiting(_) => { if last { Place::Done } else { Place::Outer } }
-            Place::Done => Place::Done,
+            Place::Waiting(_) if last => Place::Done,
+            Place::Waiting(_) => Place::Outer,
+            place => place,
         }
     }
 
-    // The two words of a place in the room.
-    pub fn kind(self) -> u16
-        ensures { result ≡ kind_word self }
+    // The two words of a place in the room: its kind, and the seed or 0.
+    pub fn words(self) -> [u16; 2]
+        ensures { result ≡ words_of self }
     {
         match self {
-            Place::Fresh => 0,
-            Place::Outer => 1,
-            Place::Inner(_) => 2,
-            Place::Waiting(_) => 3,
-            Place::Done => 4,
+            Place::Fresh => [0, 0],
+            Place::Outer => [1, 0],
+            Place::Inner(seed) => [2, seed],
+            Place::Waiting(seed) => [3, seed],
+            Place::Done => [4, 0],
         }
     }
 
-    pub fn seed(self) -> u16
-        ensures { result ≡ seed_word self }
+    // The place with these two words.
+    pub fn from_words(words: [u16; 2]) -> Place
+        ensures { result ≡ place_of (get_or words 0 0) (get_or words 1 0) }
     {
-        match self {
-            Place::Fresh => 0,
-            Place::Outer => 0,
-            Place::Inner(s) => s,
-            Place::Waiting(s) => s,
-            Place::Done => 0,
+        match words {
+            [0, _] => Place::Fresh,
+            [1, _] => Place::Outer,
+            [2, seed] => Place::Inner(seed),
+            [3, seed] => Place::Waiting(seed),
+            _ => Place::Done,
         }
-    }
-}
-
-// The place with these two words.
-pub fn place_of(kind: u16, seed: u16) -> Place
-    ensures { result ≡ place_of kind seed }
-{
-    match kind {
-        0 => Place::Fresh,
-        1 => Place::Outer,
-        2 => Place::Inner(seed),
-        3 => Place::Waiting(seed),
-        _ => Place::Done,
     }
 }
 
 // The move that a turn makes, with the states that it is about: s is the top of the stack, x the successor that is taken from it.
-#[derive(Clone, Copy)]
+#[derive(Clone, Copy, Debug, PartialEq, Eq)]
 pub enum Move {
     // 1
     Start,
@@ -158,7 +126,7 @@ pub enum Move {
 
 // 01: "outer entries, inner entries, waits, and moves that change something". Its layout is that of C: `skiffplank_c` lends it on.
 #[repr(C)]
-#[derive(Clone, Copy)]
+#[derive(Clone, Copy, Debug, Default, PartialEq, Eq)]
 pub struct Tally {
     pub outer: u64,
     pub inner: u64,
@@ -167,72 +135,44 @@ pub struct Tally {
 }
 
 impl Tally {
-    fn entered(self) -> Tally
-        requires { Low self }
-        ensures { result ≡ entered self }
-    {
-        Tally {
-            outer: self.outer + 1,
-            inner: self.inner,
-            waits: self.waits,
-            moves: self.moves + 1,
-        }
-    }
-
-    fn joined(self) -> Tally
-        requires { Low self }
-        ensures { result ≡ joined self }
-    {
-        Tally {
-            outer: self.outer,
-            inner: self.inner + 1,
-            waits: self.waits,
-            moves: self.moves + 1,
-        }
-    }
-
-    fn waited(self) -> Tally
-        requires { Low self }
-        ensures { result ≡ waited self }
-    {
-        Tally {
-            outer: self.outer,
-            inner: self.inner,
-            waits: self.waits + 1,
-            moves: self.moves,
-        }
-    }
-
-    fn changed(self) -> Tally
-        requires { Low self }
-        ensures { result ≡ changed self }
-    {
-        Tally {
-            outer: self.outer,
-            inner: self.inner,
-            waits: self.waits,
-            moves: self.moves + 1,
-        }
-    }
-
     // The tally after the move. A count stands for turns that were made, so it stays below 2^64.
     pub fn raised(self, made: Move) -> Tally
         requires { Low self }
         ensures { result ≡ raised self made }
     {
         match made {
-            Move::Start => self.entered(),
-            Move::Skip(_) => self.changed(),
-            Move::Enter(_, _) => self.entered(),
-            Move::Leave(_) => self.changed(),
-            Move::Seed(_) => self.joined(),
-            Move::Hit(_, _) => self.changed(),
-            Move::Pass(_) => self.changed(),
-            Move::Join(_, _) => self.joined(),
-            Move::Back(_, _) => self.changed(),
-            Move::Paint(_) => self.changed(),
-            Move::Wait => self.waited(),
+            Move::Start | Move::Enter(_, _) => Tally {
+                outer: self.outer + 1,
+                moves: self.moves + 1,
+                ..self
+            },
+            Move::Seed(_) | Move::Join(_, _) => Tally {
+                inner: self.inner + 1,
+                moves: self.moves + 1,
+                ..self
+            },
+            Move::Skip(_)
+            | Move::Leave(_)
+            | Move::Hit(_, _)
+            | Move::Pass(_)
+            | Move::Back(_, _)
+            | Move::Paint(_) => Tally {
+                moves: self.moves + 1,
+                ..self
+            },
+            Move::Wait => Tally {
+                waits: self.waits + 1,
+                ..self
+            },
             Move::Rest => self,
         }
+    }
+
+    // Stores the tally after the move in its place.
+    pub fn raise(&mut self, made: Move)
+        requires { Low self.old }
+        ensures { self.new ≡ raised self.old made }
+    {
+        *self = self.raised(made);
     }
 }

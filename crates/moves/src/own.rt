@@ -2,10 +2,10 @@
 ghost use Rattle.std.specs.Prelude.{◌≡◌, ◌+◌, ◌≤◌, length};
 ghost use Rattle.moves.specs.Own.{own_in};
 
-use crate::{Place, place_of};
+use crate::Place;
 
 // A worker's place, beside the depths of its two stacks.
-#[derive(Clone, Copy)]
+#[derive(Clone, Copy, Debug, PartialEq, Eq)]
 pub struct Own {
     pub place: Place,
     pub outer: u16,
@@ -18,7 +18,7 @@ pub fn own_in(room: &[u16], at: usize) -> Own
     ensures { result ≡ own_in room.now at }
 {
     Own {
-        place: place_of(room[at], room[at + 1]),
+        place: Place::from_words([room[at], room[at + 1]]),
         outer: room[at + 2],
         inner: room[at + 3],
     }

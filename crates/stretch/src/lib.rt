@@ -15,9 +15,9 @@ fn put(t: &mut [u16], n: usize, own: Own)
     requires { Sized n t.old }
     ensures { t.new ≡ put_words n own t.old }
 {
-    let place = own.place;
-    t[5 * n] = place.kind();
-    t[5 * n + 1] = place.seed();
+    let [kind, seed] = own.place.words();
+    t[5 * n] = kind;
+    t[5 * n + 1] = seed;
     t[5 * n + 2] = own.outer;
     t[5 * n + 3] = own.inner;
 }
