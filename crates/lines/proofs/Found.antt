@@ -4,7 +4,7 @@ use Prim.Native.Nat.{ℕ, suc, ◌+◌, ◌<◌}
 use mathlib.Core.Path.{◌≡◌, refl, sym, ap, ◌∙◌}
 use mathlib.Core.Bool.{Bool, true, false, cond, ◌&&◌, ◌||◌}
 use mathlib.Core.List.{List, [], ◌∷◌, ◌++◌}
-use mathlib.Core.Logic.{◌⊎◌, inl, inr}
+use mathlib.Core.Logic.{◌⊎◌, inl, inr, ◌≢◌}
 use lib.Dec.{eqb}
 use lib.ListN.{length, get_or, drop}
 use lib.Seq.{drop-drop, get_or-drop, get_or-append_seam}
@@ -17,16 +17,15 @@ use Rattle.graphs.proofs.Tests.{and_cases, or_cases, or_inl, or_inr, not_both, c
 use Rattle.graphs.proofs.Same.{same_eq}
 use Rattle.lines.specs.Line.{field, is_label, accepting, plain, is_state, is_transition, flag_of}
 use Rattle.lines.specs.Found.{label_of, first_line, ended, state_found, transition_found}
-use Rattle.lines.specs.Scan.{label_here, front_of}
+use Rattle.lines.specs.Scan.{label_here, Begins}
 use Rattle.lines.specs.declared.Label.{Label}
 use Rattle.lines.specs.declared.StateLine.{StateLine}
 use Rattle.lines.specs.declared.TransitionLine.{TransitionLine}
 use Rattle.std.specs.Prelude.{Option, Some, None}
-use Rattle.lines.proofs.Bytes.{line_feed_ends}
-use Rattle.lines.proofs.Labels.{here_split, here_label, here_is, label_some}
-use Rattle.lines.proofs.Front.{stands, drop_byte, front_begun}
+use Rattle.lines.proofs.Bytes.{tab_ends, line_feed_ends}
+use Rattle.lines.proofs.Labels.{here_label, begins_some, begins_rest}
 use Rattle.lines.proofs.Lines.{three, line_long, Plain, label_plain, three_ended, three_first, three_fields}
-use Rattle.lines.proofs.Lines.{three_of, three_front, three_rest}
+use Rattle.lines.proofs.Lines.{three_of}
 use Rattle.lines.proofs.Records.{Passed, flagged, state_passed, transition_passed}
 
 -- the records, as the code gives them
@@ -94,104 +93,84 @@ transition_three at a b r good last =
     let pb = label_plain b last in
     rw (three_ended 84 a b r pl pa pb, three_first 84 a b r pl pa pb, three_fields 84 a b r pl pa pb, good, last, line_long 84 a b)
 
--- a byte of what is left at a place
-byte_at : (text : List ℕ) (at k : ℕ) (l : List ℕ) → drop at text ≡ l → get_or text (at + k) 0 ≡ get_or l k 0
-byte_at text at k l e = sym (get_or-drop at text k 0) ∙ ap (λ m. get_or m k 0) e
+-- what is left of the text begins with another letter or no tab
+pub state_no_front : (at : ℕ) (left : List ℕ) → ((m : List ℕ) → left ≢ 83 ∷ 9 ∷ m) → None ≡ state_found at left
+state_no_front at left h = state_none at left (λ f. h _ f.is)
 
-no_front : (text : List ℕ) (at letter : ℕ) (last : List ℕ → Bool) → None ≡ front_of at letter (drop at text)
-    → Formed (drop at text) letter last → ⊥
-no_front text at letter last e f =
-    let both = e ∙ three_front text at letter f.label f.end f.rest f.good f.is in
-    clash {b = true} refl (cc)
+pub transition_no_front : (at : ℕ) (left : List ℕ) → ((m : List ℕ) → left ≢ 84 ∷ 9 ∷ m) → None ≡ transition_found at left
+transition_no_front at left h = transition_none at left (λ f. h _ f.is)
 
-module _ (text : List ℕ) (at : ℕ) where
-  pub state_no_front : None ≡ front_of at 83 (drop at text) → None ≡ state_found at (drop at text)
-  state_no_front e = state_none at (drop at text) (no_front text at 83 flagged e)
+-- the letter and the tab of a state stand first: then a label, a tab, a flag and a line feed have to follow
+module _ (at : ℕ) {left more : List ℕ} (front : left ≡ 83 ∷ 9 ∷ more) where
+  state_more : (f : Formed left 83 flagged) → more ≡ f.label ++ 9 ∷ (f.end ++ 10 ∷ f.rest)
+  state_more f = ap (drop 2) (sym front ∙ f.is)
 
-  pub transition_no_front : None ≡ front_of at 84 (drop at text) → None ≡ transition_found at (drop at text)
-  transition_no_front e = transition_none at (drop at text) (no_front text at 84 is_label e)
+  pub state_no_label : label_here more ≡ [] → None ≡ state_found at left
+  state_no_label e = state_none at left (λ f. begins_some f.label 9 (f.end ++ 10 ∷ f.rest) f.good tab_ends (state_more f) e)
 
--- the front of a state stands at the place: then a flag and a line feed have to follow it
-module _ (text : List ℕ) (at : ℕ) (l : Label) (after : ℕ) (front : stands l after ≡ front_of at 83 (drop at text)) where
-  flag_follows : Formed (drop at text) 83 flagged
-      → (eqb (get_or text (after + 1) 0) 10 ≡ true) × ((eqb (get_or text after 0) 97 || eqb (get_or text after 0) 45) ≡ true)
-  flag_follows f = go (or_cases (same f.end accepting) (same f.end plain) f.passed)
-    where
-      flag : ℕ
-      flag = get_or text after 0
+  module _ {l : Label} {rest : List ℕ} (b : Begins more l rest) where
+    pub state_no_flag : ((m : List ℕ) → rest ≢ 9 ∷ 97 ∷ 10 ∷ m) → ((m : List ℕ) → rest ≢ 9 ∷ 45 ∷ 10 ∷ m) → None ≡ state_found at left
+    state_no_flag a p = state_none at left go
+      where
+        go : Formed left 83 flagged → ⊥
+        go f = flag (or_cases (same f.end accepting) (same f.end plain) f.passed)
+          where
+            here : rest ≡ 9 ∷ (f.end ++ 10 ∷ f.rest)
+            here = begins_rest f.label 9 (f.end ++ 10 ∷ f.rest) f.good tab_ends (state_more f) b
 
-      bytes : (x : ℕ) → same f.end (x ∷ []) ≡ true → (eqb flag x ≡ true) × (eqb (get_or text (after + 1) 0) 10 ≡ true)
-      bytes x e =
-          let left : drop after text ≡ x ∷ 10 ∷ f.rest =
-          three_rest text at 83 f.label f.end f.rest f.good f.is l after front
-          ∙ ap (λ m. m ++ 10 ∷ f.rest) (same_eq f.end (x ∷ []) e) in
-          let first = rw (add-zero after) at (byte_at text after 0 (x ∷ 10 ∷ f.rest) left) in
-          (eq-eqb flag x first, eq-eqb (get_or text (after + 1) 0) 10 (byte_at text after 1 (x ∷ 10 ∷ f.rest) left))
+            flag : (same f.end accepting ≡ true) ⊎ (same f.end plain ≡ true) → ⊥
+            flag (inl e) = a f.rest (here ∙ ap (λ m. 9 ∷ (m ++ 10 ∷ f.rest)) (same_eq f.end accepting e))
+            flag (inr e) = p f.rest (here ∙ ap (λ m. 9 ∷ (m ++ 10 ∷ f.rest)) (same_eq f.end plain e))
 
-      go : (same f.end accepting ≡ true) ⊎ (same f.end plain ≡ true)
-          → (eqb (get_or text (after + 1) 0) 10 ≡ true) × ((eqb flag 97 || eqb flag 45) ≡ true)
-      go (inl e) = let b = bytes 97 e in (b.1, or_inl (eqb flag 97) (eqb flag 45) b.0)
-      go (inr e) = let b = bytes 45 e in (b.1, or_inr (eqb flag 97) (eqb flag 45) b.0)
+    state_by : (x : ℕ) (m : List ℕ) → Plain (x ∷ []) → flagged (x ∷ []) ≡ true → rest ≡ 9 ∷ x ∷ 10 ∷ m
+        → state l (cond (same (x ∷ []) accepting) 1 0) (at + l.len + 5) ≡ state_found at left
+    unfolding label_of
+    state_by x m pb last e =
+        let a = label_here more in
+        let is : left ≡ three 83 a (x ∷ []) m = front ∙ ap (λ r. 83 ∷ 9 ∷ r) (b.is ∙ ap (λ r. a ++ r) e) in
+        let place : at + (3 + length a + 1) + 1 ≡ at + length a + 5 = omega arith in
+        sym (rw (is, b.words, ← place) (state_three at a (x ∷ []) m (here_label more b.some) pb last))
 
-  pub state_no_feed : eqb (get_or text (after + 1) 0) 10 ≡ false → None ≡ state_found at (drop at text)
-  state_no_feed e = state_none at (drop at text) (λ f. clash (flag_follows f).0 e)
+    pub state_accepting : (m : List ℕ) → rest ≡ 9 ∷ 97 ∷ 10 ∷ m → state l 1 (at + l.len + 5) ≡ state_found at left
+    unfolding same elem
+    state_accepting m = state_by 97 m (record { tab_free = refl; feed_free = refl }) refl
 
-  pub state_no_flag : eqb (get_or text after 0) 97 ≡ false → eqb (get_or text after 0) 45 ≡ false → None ≡ state_found at (drop at text)
-  state_no_flag a p = state_none at (drop at text) (λ f. clash (flag_follows f).1 (rw a p))
+    pub state_plain : (m : List ℕ) → rest ≡ 9 ∷ 45 ∷ 10 ∷ m → state l 0 (at + l.len + 5) ≡ state_found at left
+    unfolding same elem
+    state_plain m = state_by 45 m (record { tab_free = refl; feed_free = refl }) refl
 
-  state_by : (x : ℕ) → 0 < x → Plain (x ∷ []) → flagged (x ∷ []) ≡ true → eqb (get_or text (after + 1) 0) 10 ≡ true → eqb (get_or text after 0) x ≡ true
-      → state l (cond (same (x ∷ []) accepting) 1 0) (after + 2) ≡ state_found at (drop at text)
-  state_by x some pb last feed flag =
-      let b = front_begun text at 83 l after (omega arith) front in
-      let first : drop after text ≡ x ∷ drop (suc after) text = drop_byte text after x some (eqb-true (get_or text after 0) x flag) in
-      let second : drop (suc after) text ≡ 10 ∷ drop (suc (suc after)) text =
-      drop_byte text (suc after) 10 (omega arith) (rw (add-one after) at (eqb-true (get_or text (after + 1) 0) 10 feed)) in
-      let is : drop at text ≡ three 83 b.label (x ∷ []) (drop (suc (suc after)) text) =
-      b.is ∙ ap (λ m. 83 ∷ 9 ∷ (b.label ++ 9 ∷ m)) (first ∙ ap (λ m. x ∷ m) second) in
-      let found = ap (state_found at) is ∙ state_three at b.label (x ∷ []) (drop (suc (suc after)) text) b.good pb last in
-      let words = b.words in
-      let place : at + (3 + length b.label + 1) + 1 ≡ after + 2 = omega (arith, b.place) in
-      cc
+-- the letter and the tab of a transition stand first: then a label, a tab, a label and a line feed have to follow
+module _ (at : ℕ) {left more : List ℕ} (front : left ≡ 84 ∷ 9 ∷ more) where
+  transition_more : (f : Formed left 84 is_label) → more ≡ f.label ++ 9 ∷ (f.end ++ 10 ∷ f.rest)
+  transition_more f = ap (drop 2) (sym front ∙ f.is)
 
-  pub state_accepting : eqb (get_or text (after + 1) 0) 10 ≡ true → eqb (get_or text after 0) 97 ≡ true
-      → state l 1 (after + 2) ≡ state_found at (drop at text)
-  unfolding same elem
-  state_accepting feed flag = state_by 97 (omega arith) (record { tab_free = refl; feed_free = refl }) refl feed flag
+  pub transition_no_from : label_here more ≡ [] → None ≡ transition_found at left
+  transition_no_from e = transition_none at left (λ f. begins_some f.label 9 (f.end ++ 10 ∷ f.rest) f.good tab_ends (transition_more f) e)
 
-  pub state_plain : eqb (get_or text (after + 1) 0) 10 ≡ true → eqb (get_or text after 0) 45 ≡ true
-      → state l 0 (after + 2) ≡ state_found at (drop at text)
-  unfolding same elem
-  state_plain feed flag = state_by 45 (omega arith) (record { tab_free = refl; feed_free = refl }) refl feed flag
+  module _ {from : Label} {rest : List ℕ} (b : Begins more from rest) where
+    after_from : (f : Formed left 84 is_label) → rest ≡ 9 ∷ (f.end ++ 10 ∷ f.rest)
+    after_from f = begins_rest f.label 9 (f.end ++ 10 ∷ f.rest) f.good tab_ends (transition_more f) b
 
--- the front of a transition stands at the place: then a label and a line feed have to follow it
-module _ (text : List ℕ) (at : ℕ) (l : Label) (after : ℕ) (front : stands l after ≡ front_of at 84 (drop at text)) where
-  abbrev to : List ℕ
-  to = label_here (drop after text)
+    pub transition_no_tab : ((m : List ℕ) → rest ≢ 9 ∷ m) → None ≡ transition_found at left
+    transition_no_tab h = transition_none at left (λ f. h _ (after_from f))
 
-  label_follows : Formed (drop at text) 84 is_label → (0 < length to) × (eqb (get_or text (after + length to) 0) 10 ≡ true)
-  label_follows f =
-      let left : drop after text ≡ f.end ++ 10 ∷ f.rest =
-      three_rest text at 84 f.label f.end f.rest f.good f.is l after front in
-      let is : to ≡ f.end = ap label_here left ∙ here_is f.end 10 f.rest f.passed line_feed_ends in
-      let byte = byte_at text after (length f.end) (f.end ++ 10 ∷ f.rest) left ∙ get_or-append_seam f.end 10 f.rest 0 in
-      (rw is (label_some f.end f.passed), rw is (eq-eqb (get_or text (after + length f.end) 0) 10 byte))
+    module _ {last : List ℕ} (tab : rest ≡ 9 ∷ last) where
+      last_is : (f : Formed left 84 is_label) → last ≡ f.end ++ 10 ∷ f.rest
+      last_is f = ap (drop 1) (sym tab ∙ after_from f)
 
-  pub transition_no_label : length to ≡ 0 → None ≡ transition_found at (drop at text)
-  transition_no_label e = transition_none at (drop at text) (λ f. absurd (omega (arith, (label_follows f).0)))
+      pub transition_no_to : label_here last ≡ [] → None ≡ transition_found at left
+      transition_no_to e = transition_none at left (λ f. begins_some f.end 10 f.rest f.passed line_feed_ends (last_is f) e)
 
-  pub transition_no_feed : eqb (get_or text (after + length to) 0) 10 ≡ false → None ≡ transition_found at (drop at text)
-  transition_no_feed e = transition_none at (drop at text) (λ f. clash (label_follows f).1 e)
+      module _ {to : Label} {end : List ℕ} (d : Begins last to end) where
+        pub transition_no_feed : ((m : List ℕ) → end ≢ 10 ∷ m) → None ≡ transition_found at left
+        transition_no_feed h = transition_none at left (λ f. h _ (begins_rest f.end 10 f.rest f.passed line_feed_ends (last_is f) d))
 
-  pub transition_is : 0 < length to → eqb (get_or text (after + length to) 0) 10 ≡ true
-      → transition l (label_of to) (after + length to + 1) ≡ transition_found at (drop at text)
-  transition_is some feed =
-      let b = front_begun text at 84 l after (omega arith) front in
-      let end : drop (length to) (drop after text) ≡ 10 ∷ drop (suc (after + length to)) text =
-      drop-drop (length to) after text ∙ drop_byte text (after + length to) 10 (omega arith) (eqb-true (get_or text (after + length to) 0) 10 feed) in
-      let is : drop at text ≡ three 84 b.label to (drop (suc (after + length to)) text) =
-      b.is ∙ ap (λ m. 84 ∷ 9 ∷ (b.label ++ 9 ∷ m)) (here_split (drop after text) ∙ ap (λ m. to ++ m) end) in
-      let last = here_label (drop after text) some in
-      let found = ap (transition_found at) is ∙ transition_three at b.label to (drop (suc (after + length to)) text) b.good last in
-      let words = b.words in
-      let place : at + (3 + length b.label + length to) + 1 ≡ after + length to + 1 = omega (arith, b.place) in
-      cc
+        pub transition_is : (m : List ℕ) → end ≡ 10 ∷ m → transition from to (at + from.len + to.len + 4) ≡ transition_found at left
+        unfolding label_of
+        transition_is m e =
+            let a = label_here more in
+            let z = label_here last in
+            let is : left ≡ three 84 a z m =
+            front ∙ ap (λ r. 84 ∷ 9 ∷ r) (b.is ∙ ap (λ r. a ++ r) (tab ∙ ap (λ r. 9 ∷ r) (d.is ∙ ap (λ r. z ++ r) e))) in
+            let place : at + (3 + length a + length z) + 1 ≡ at + length a + length z + 4 = omega arith in
+            sym (rw (is, b.words, d.words, ← place) (transition_three at a z m (here_label more b.some) (here_label last d.some)))

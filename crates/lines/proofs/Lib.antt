@@ -5,7 +5,6 @@ pub mod Run
 pub mod Part
 pub mod Labels
 pub mod Cut
-pub mod Front
 pub mod Pieces
 pub mod Lines
 pub mod Records

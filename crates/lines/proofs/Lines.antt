@@ -7,7 +7,6 @@ use mathlib.Core.List.{List, [], ◌∷◌, ◌++◌, append_assoc}
 use mathlib.Core.Logic.{◌⊎◌, inl, inr, ◌≢◌}
 use lib.Dec.{eqb}
 use lib.ListN.{length, drop, length-append}
-use lib.Seq.{drop-drop, drop_at}
 use native.Mathlib.Omega.{arith}
 use borrow.Author.Tests.{eqb-true}
 use Rattle.graphs.specs.Lists.{elem, same}
@@ -15,14 +14,11 @@ use Rattle.graphs.proofs.Tests.{clash}
 use Rattle.graphs.proofs.Same.{same_eq}
 use Rattle.lines.specs.Bytes.{in_label}
 use Rattle.lines.specs.Line.{cut, fields, field, is_label}
-use Rattle.lines.specs.Found.{label_of, first_line, ended}
-use Rattle.lines.specs.Scan.{front_of}
-use Rattle.lines.specs.declared.Label.{Label}
+use Rattle.lines.specs.Found.{first_line, ended}
 use Rattle.lines.proofs.Bytes.{tab_ends, line_feed_ends}
 use Rattle.lines.proofs.Labels.{label_bytes}
 use Rattle.lines.proofs.Cut.{Parted, parted?, parted_cut, cut_free, cut_at, cut_some, free_cons, free_join, free_all}
 use Rattle.lines.proofs.Pieces.{parted_line, parted_ended, ended_is}
-use Rattle.lines.proofs.Front.{stands, front_of_lem}
 
 abbrev pub line_of : ℕ → List ℕ → List ℕ → List ℕ
 line_of letter a b = letter ∷ 9 ∷ (a ++ 9 ∷ b)
@@ -109,20 +105,3 @@ module _ (left : List ℕ) (letter : ℕ) (feed : ended left ≡ true) (count : 
       let is : line ≡ line_of letter (field 1 line) (field 2 line) =
       fields_line line count ∙ ap (λ f. f ++ 9 ∷ (field 1 line ++ 9 ∷ field 2 line)) (same_eq (field 0 line) (letter ∷ []) name) in
       ended_is left feed ∙ ap (λ l. l ++ 10 ∷ rest) is ∙ three_line letter (field 1 line) (field 2 line) rest
-
-drop_front : (letter : ℕ) (a m : List ℕ) → drop (3 + length a) (letter ∷ 9 ∷ (a ++ 9 ∷ m)) ≡ m
-drop_front letter a m =
-    let q : 3 + length a ≡ suc (suc (length a + 1)) = omega arith in
-    rw q (sym (drop-drop 1 (length a) (a ++ 9 ∷ m)) ∙ ap (drop 1) (drop_at a (9 ∷ m) (length a) refl))
-
--- its front is found, and the last field stands where the front ends
-module _ (text : List ℕ) (at letter : ℕ) (a b r : List ℕ) (good : is_label a ≡ true) (is : drop at text ≡ three letter a b r) where
-  pub three_front : front_of at letter (drop at text) ≡ stands (label_of a) (at + 3 + length a)
-  three_front = rw is (front_of_lem at letter a (b ++ 10 ∷ r) good)
-
-  pub three_rest : (l : Label) (after : ℕ) → stands l after ≡ front_of at letter (drop at text) → drop after text ≡ b ++ 10 ∷ r
-  three_rest l after e =
-      let both = e ∙ three_front in
-      let place : at + 3 + length a ≡ after = cc in
-      let q : at + (3 + length a) ≡ after = omega arith in
-      ap (λ k. drop k text) (sym q) ∙ sym (drop-drop (3 + length a) at text) ∙ ap (drop (3 + length a)) is ∙ drop_front letter a (b ++ 10 ∷ r)

@@ -1,7 +1,7 @@
 -- Laws of state lines and transition lines: their labels, flag and letter, and where the label of a state stands in the text.
 use Prim.Native.Nat.{ℕ, suc, ◌<◌}
 use mathlib.Core.Path.{◌≡◌, refl, ap, ◌∙◌}
-use mathlib.Core.Bool.{Bool, true, false, ◌||◌}
+use mathlib.Core.Bool.{Bool, true, false, ◌&&◌, ◌||◌}
 use mathlib.Core.List.{List, [], ◌∷◌, ◌++◌}
 use mathlib.Core.Logic.{◌⊎◌, inl, inr, ◌≢◌}
 use lib.Dec.{eqb}
@@ -9,13 +9,19 @@ use lib.ListN.{length, get_or, take, drop}
 use lib.Seq.{take_at}
 use native.Mathlib.Omega.{arith}
 use Rattle.graphs.specs.Lists.{elem, same}
-use Rattle.graphs.proofs.Tests.{not_both, cond_ind}
+use Rattle.graphs.proofs.Tests.{and_cases, not_both, cond_ind}
 use Rattle.graphs.proofs.Same.{same_eq}
 use Rattle.lines.specs.Line.{cut, fields, field, is_label, S, T, accepting, plain, is_state, is_transition, flag_of}
 use Rattle.lines.specs.Found.{first_line, ended}
 use Rattle.lines.proofs.Cut.{Parted, parted?, parted_cut, cut_free}
-use Rattle.lines.proofs.Front.{and_four}
 use Rattle.lines.proofs.Lines.{three_of}
+
+and_four : (a b c d : Bool) → (a && b && c && d) ≡ true → (a ≡ true) × (b ≡ true) × (c ≡ true) × (d ≡ true)
+and_four a b c d e =
+    let three = and_cases (a && b && c) d e in
+    let two = and_cases (a && b) c three.0 in
+    let one = and_cases a b two.0 in
+    (one.0, one.1, two.1, three.1)
 
 -- the tests that a line passed: three fields, the letter, the label, and the last field
 abbrev pub Passed : ℕ → (List ℕ → Bool) → List ℕ → Type 0

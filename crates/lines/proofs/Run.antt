@@ -1,15 +1,16 @@
 -- Laws of `label_run`, how many of the first k bytes a label may hold: its bounds, that it counts label bytes, and that it counts all of them.
-use Prim.Native.Nat.{ℕ, zero, suc, ◌+◌, ◌-◌, ◌≤◌, ◌<◌}
+use Prim.Native.Nat.{ℕ, zero, suc, ◌+◌, ◌-◌, ◌≤◌, ◌<◌, min}
 use mathlib.Core.Path.{◌≡◌, refl, ap}
 use mathlib.Core.Bool.{true, false}
 use mathlib.Core.List.{List, [], ◌∷◌, ◌++◌}
 use mathlib.Core.Logic.{◌⊎◌, inl, inr}
 use lib.ListN.{length, get_or, take, drop, drop_of_length-le}
 use lib.Seq.{drop-cons}
+use Rattle.std.proofs.lemmas.List.{length-take, get_or-take}
 use native.Mathlib.Nat.{zero-add, suc-add}
 use native.Mathlib.Omega.{arith}
 use Rattle.graphs.specs.Lists.{all}
-use Rattle.graphs.proofs.Tests.{and_cases, either, cond_ind}
+use Rattle.graphs.proofs.Tests.{and_cases, either, cond_ind, below?}
 use Rattle.lines.specs.Bytes.{in_label}
 use Rattle.lines.specs.Found.{label_run}
 
@@ -60,6 +61,18 @@ module _ (k i : ℕ) (l : List ℕ) where
     where
       none : (n : ℕ) → label_run n [] ≡ 0
       none n = omega (arith, run_inside n [])
+
+-- the first bytes of what is left, eight at most
+module _ (left : List ℕ) (i : ℕ) {m : ℕ} (few : m ≡ min (length left) 8) where
+  pub few_at : i < length (take m left) → (i < 8) × (i < length left) × (get_or (take m left) i 0 ≡ get_or left i 0)
+  few_at h = let long = length-take m left in (omega arith, omega arith, get_or-take m left i 0 (omega arith))
+
+  pub few_end : length (take m left) ≤ i → label_run (8 - i) (drop i left) ≡ 0
+  few_end h = go (below? i 8)
+    where
+      go : (i < 8) ⊎ (8 ≤ i) → label_run (8 - i) (drop i left) ≡ 0
+      go (inl b) = run_end 8 i left (let long = length-take m left in omega arith)
+      go (inr b) = run_full 8 i left b
 
 -- the run among more bytes: it ended among the first k, or it goes on after them
 pub run_short : (k j : ℕ) (l : List ℕ) → label_run k l < k → label_run (k + j) l ≡ label_run k l

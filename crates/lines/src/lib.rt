@@ -8,7 +8,7 @@ ghost use Rattle.std.specs.Prelude.{◌≡◌, ◌≤◌, drop};
 ghost use Rattle.lines.specs.Found.{state_found, transition_found};
 
 pub use kinds::Kind;
-use scan::{Front, byte_is, front_at, label_at};
+use scan::{first_label, front};
 
 // A label: its length, and its bytes as two words, the first eight bytes and the rest of them, in base 256.
 #[derive(Clone, Copy, Debug, PartialEq, Eq)]
@@ -39,45 +39,34 @@ pub fn state_line(text: &[u8], at: usize) -> Option<StateLine>
     requires { at ≤ 1048576 }
     ensures { result ≡ state_found at (drop at text.now) }
 {
-    let Front { label, after } = front_at(text, at, b'S')?;
-    if !byte_is(text, after + 1, b'\n') {
+    let (label, left) = first_label(front(text, at, b'S')?)?;
+    let flag = if left.starts_with(b"\ta\n") {
+        1
+    } else if left.starts_with(b"\t-\n") {
+        0
+    } else {
         return None;
-    }
-    if byte_is(text, after, b'a') {
-        return Some(StateLine {
-            label,
-            flag: 1,
-            next: after + 2,
-        });
-    }
-    if byte_is(text, after, b'-') {
-        return Some(StateLine {
-            label,
-            flag: 0,
-            next: after + 2,
-        });
-    }
-    None
+    };
+    Some(StateLine {
+        label,
+        flag,
+        next: at + label.len + 5,
+    })
 }
 
 // The transition that stands at a place of a text: `T→label→label` and a line feed.
-#[tactic(auto, unfolding(crate::specs::Found::label_of))]
 pub fn transition_line(text: &[u8], at: usize) -> Option<TransitionLine>
     requires { at ≤ 1048576 }
     ensures { result ≡ transition_found at (drop at text.now) }
 {
-    let Front { label: from, after } = front_at(text, at, b'T')?;
-    let to = label_at(text, after);
-    let len = to.len;
-    if len == 0 {
-        return None;
-    }
-    if !byte_is(text, after + len, b'\n') {
+    let (from, left) = first_label(front(text, at, b'T')?)?;
+    let (to, left) = first_label(left.strip_prefix(b"\t")?)?;
+    if !left.starts_with(b"\n") {
         return None;
     }
     Some(TransitionLine {
         from,
         to,
-        next: after + len + 1,
+        next: at + from.len + to.len + 4,
     })
 }

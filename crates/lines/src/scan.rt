@@ -1,46 +1,36 @@
-// What stands at a place of a text: a byte, a label, and the front of a line, which is its letter, a tab, a label and a tab.
-ghost use Rattle.std.specs.Prelude.{◌≡◌, ◌+◌, ◌<◌, ◌≤◌, eqb, get_or, drop};
-ghost use Rattle.lines.specs.Found.{label_of};
-ghost use Rattle.lines.specs.Scan.{most_place, part_of, label_here, front_of};
+// What stands at a place of a text: the front of a line, which is its letter and a tab, and a label.
+ghost use Rattle.std.specs.Prelude.{ℕ, ◌≡◌, ◌≢◌, ◌≤◌, List, [], ◌∷◌, MatchOption, IfSome, length, drop};
+ghost use Rattle.lines.specs.Scan.{part_of, label_here, Begins};
 
 use crate::Label;
 use crate::kinds::Kind;
 
-#[derive(Clone, Copy)]
-pub struct Part {
-    pub len: usize,
-    pub word: usize,
-}
-
-#[derive(Clone, Copy)]
-pub struct Front {
-    pub label: Label,
-    pub after: usize,
-}
-
-// The byte stands at i. (No byte asked for is 0, what a place past the end counts as.)
-pub fn byte_is(text: &[u8], i: usize, byte: u8) -> bool
-    requires { 0 < byte }
-    ensures { result ≡ eqb (get_or text.now i 0) byte }
+// What is left of the text after the letter and a tab, which stand at the place.
+pub fn front(text: &[u8], at: usize, letter: u8) -> Option<&[u8]>
+    ensures { MatchOption result ((left : List ℕ) → drop at text.now ≢ letter ∷ 9 ∷ left) (λ left. drop at text.now ≡ letter ∷ 9 ∷ left.now) }
 {
-    text.get(i) == Some(&byte)
+    match text.get(at..)? {
+        [first, b'\t', left @ ..] if *first == letter => Some(left),
+        _ => None,
+    }
 }
 
-// The first of up to eight label bytes from a place on, and their word.
-pub fn part_at(text: &[u8], at: usize) -> Part
-    requires { at ≤ most_place }
-    ensures { result ≡ part_of (drop at text.now) }
+#[derive(Clone, Copy)]
+struct Part {
+    len: usize,
+    word: usize,
+}
+
+// The first of up to eight label bytes, and their word.
+fn first_part(left: &[u8]) -> Part
+    ensures is { result ≡ part_of left.now }
+    ensures within { (result.len ≤ 8) × (result.len ≤ length left.now) }
 {
     let mut len = 0;
     let mut word = 0;
-    while len < 8 {
-        let i = at + len;
-        if text.len() <= i {
-            return Part { len, word };
-        }
-        let byte = text[i];
+    for &byte in &left[..left.len().min(8)] {
         if !Kind::of(byte).is_of_label() {
-            return Part { len, word };
+            break;
         }
         word = word * 256 + usize::from(byte);
         len += 1;
@@ -48,51 +38,28 @@ pub fn part_at(text: &[u8], at: usize) -> Part
     Part { len, word }
 }
 
-// The label of up to 16 bytes from a place on; it has no byte if none stands there.
-pub fn label_at(text: &[u8], at: usize) -> Label
-    requires { at + 8 ≤ most_place }
-    ensures { result ≡ label_of (label_here (drop at text.now)) }
+// The label of up to 16 bytes that stands first, and what is left after it.
+pub fn first_label(left: &[u8]) -> Option<(Label, &[u8])>
+    ensures begins { MatchOption result (label_here left.now ≡ []) (λ r. Begins left.now r.0 r.1.now) }
+    ensures few { IfSome result (λ r. r.0.len ≤ 16) }
 {
-    let begin = part_at(text, at);
-    let len = begin.len;
-    let first = begin.word;
-    if len < 8 {
-        return Label {
-            len,
-            first,
-            second: 0,
-        };
-    }
-    let end = part_at(text, at + 8);
-    Label {
-        len: 8 + end.len,
-        first,
-        second: end.word,
-    }
-}
-
-// The front of a line, which is its letter, a tab, a label and a tab; the next field starts at `after`.
-#[tactic(auto, unfolding(crate::specs::Found::label_of))]
-pub fn front_at(text: &[u8], at: usize, letter: u8) -> Option<Front>
-    requires { (at + 10 ≤ most_place) × (0 < letter) }
-    ensures { result ≡ front_of at letter (drop at text.now) }
-{
-    if !byte_is(text, at, letter) {
-        return None;
-    }
-    if !byte_is(text, at + 1, b'\t') {
-        return None;
-    }
-    let label = label_at(text, at + 2);
-    let len = label.len;
+    let Part { len, word } = first_part(left);
     if len == 0 {
         return None;
     }
-    if !byte_is(text, at + 2 + len, b'\t') {
-        return None;
+    if len < 8 {
+        let label = Label {
+            len,
+            first: word,
+            second: 0,
+        };
+        return Some((label, &left[len..]));
     }
-    Some(Front {
-        label,
-        after: at + 3 + len,
-    })
+    let rest = first_part(&left[8..]);
+    let label = Label {
+        len: 8 + rest.len,
+        first: word,
+        second: rest.word,
+    };
+    Some((label, &left[label.len..]))
 }

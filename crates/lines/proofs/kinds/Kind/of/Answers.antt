@@ -1,0 +1,8 @@
+use mathlib.Core.Path.{ap, ◌∙◌}
+use native.Mathlib.Omega.{arith}
+use Rattle.lines.specs.Bytes.{kind_of}
+use Rattle.lines.proofs.Table.{table_at}
+use Rattle.lines.proofs.kinds.Kind.of.Goals as goal
+
+pub returns : goal.returns
+returns c = table_at c.from.result _ (omega arith) ∙ ap kind_of c.from.ensures
