@@ -1,8 +1,8 @@
 -- From a fact at each index, as iterators give it, to `every`.
-use Rattle.std.proofs.Common.{ℕ, ◌≡◌, ◌<◌, ◌+◌, ◌-◌, Bool, true, false, IsTrue, ◌↔◌, List, length, get_or, refl, sym, arith}
-use Rattle.std.specs.Bool.{MatchBool}
+use Rattle.std.proofs.Common.{ℕ, ◌≡◌, ◌<◌, ◌+◌, ◌-◌, Bool, true, false, IsTrue, ◌↔◌, List, length, get_or, refl, sym, arith, MatchBool, ltb-true, lt-ltb}
+use Rattle.std.proofs.Common.{le-leb}
 use Rattle.std.specs.List.Sorted.{IsNonDecreasing}
-use borrow.Author.Tests.{ltb-true, lt-ltb, le-leb, lt-leb}
+use borrow.Author.Tests.{lt-leb}
 use Rattle.graphs.specs.Lists.{every}
 use Rattle.graphs.specs.Words.{never_falling, all_below}
 use Rattle.graphs.proofs.Every.{every_of, every_at, every_not}

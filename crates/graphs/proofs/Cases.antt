@@ -1,9 +1,6 @@
 -- The definitions at work, by computing: words that are a graph and words that are not, a worker's order of looking, and 01's lasso.
-use Prim.Native.Nat.{ℕ}
-use mathlib.Core.Path.{◌≡◌, refl}
-use mathlib.Core.Bool.{Bool, true, false, ◌&&◌, beq}
-use mathlib.Core.List.{List, [], ◌∷◌}
-use mathlib.Core.Logic.{inl}
+use Rattle.std.proofs.Common.{ℕ, ◌≡◌, refl, Bool, true, false, ◌&&◌, List, [], ◌∷◌, inl}
+use mathlib.Core.Bool.{beq}
 use Rattle.graphs.specs.Lists.{every, elem, repeats, sum}
 use Rattle.graphs.specs.Graph.{Graph, graph, turned, edges}
 use Rattle.graphs.specs.Lasso.{Lasso, final}

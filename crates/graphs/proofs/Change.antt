@@ -1,9 +1,5 @@
 -- Laws of `upd`: a function changed at one place. `upd_ind` says everything of the changed function from what holds there and elsewhere.
-use Prim.Native.Nat.{ℕ}
-use mathlib.Core.Path.{◌≡◌, refl, subst}
-use mathlib.Core.Bool.{Bool, true, false, not}
-use mathlib.Core.Logic.{◌⊎◌, inl, inr, ◌≢◌}
-use borrow.Author.Tests.{eq-eqb, ne_eqb}
+use Rattle.std.proofs.Common.{ℕ, ◌≡◌, refl, subst, Bool, true, false, not, ◌⊎◌, inl, inr, ◌≢◌, eq-eqb, ne_eqb}
 use Rattle.graphs.specs.Lists.{upd}
 use Rattle.graphs.proofs.Tests.{same?, clash}
 

@@ -1,10 +1,6 @@
 -- Laws of `every`: a test of all numbers below n. A loop that counts up keeps `every i f ≡ true` and leaves at the first i that fails. Whether some
 -- number below n passes a test can be found out.
-use Prim.Native.Nat.{ℕ, zero, suc, ◌<◌}
-use mathlib.Core.Path.{◌≡◌, refl, ap, ◌∙◌}
-use mathlib.Core.Bool.{Bool, true, false, not}
-use mathlib.Core.Logic.{◌⊎◌, inl, inr, ◌≢◌}
-use native.Mathlib.Omega.{arith}
+use Rattle.std.proofs.Common.{ℕ, zero, suc, ◌<◌, ◌≡◌, refl, ap, ◌∙◌, Bool, true, false, not, ◌⊎◌, inl, inr, ◌≢◌, arith}
 use borrow.Author.Tests.{not-true, not-false}
 use Rattle.graphs.specs.Lists.{every}
 use Rattle.graphs.proofs.Tests.{either, same?, clash, not_both, and_cases}

@@ -1,8 +1,5 @@
 -- A lasso shows that a loop through a mark can be reached, and holds only states.
-use Prim.Native.Nat.{ℕ, ◌<◌}
-use mathlib.Core.Path.{refl, sym}
-use mathlib.Core.List.{List, [], ◌∷◌, ◌++◌}
-use mathlib.Core.Logic.{inl, inr}
+use Rattle.std.proofs.Common.{ℕ, ◌<◌, refl, sym, List, [], ◌∷◌, ◌++◌, inl, inr}
 use Rattle.graphs.specs.Lists.{Mem}
 use Rattle.graphs.specs.Graph.{Graph, Walk, stay, step, Far, Sound}
 use Rattle.graphs.specs.Lasso.{Begins, Linked, Chain, final, Closes, Lasso, MarkedLoop}

@@ -1,13 +1,7 @@
 -- Laws of membership: in joined lists, in a list turned round, in the part of a list that was taken, and in a list known by an equation.
-use Prim.Native.Nat.{ℕ, zero, suc, ◌<◌}
-use mathlib.Core.Path.{◌≡◌, refl, sym, ap, subst}
-use mathlib.Core.Bool.{true, false}
-use mathlib.Core.List.{List, [], ◌∷◌, ◌++◌, reverse, reverse-cons, reverse-reverse}
-use mathlib.Core.Logic.{◌⊎◌, inl, inr, ◌≢◌}
-use lib.Dec.{eqb}
-use lib.ListN.{length, get_or, take, drop, take-append-drop}
-use native.Mathlib.Omega.{arith}
-use borrow.Author.Tests.{eqb-true, eq-eqb}
+use Rattle.std.proofs.Common.{ℕ, zero, suc, ◌<◌, ◌≡◌, refl, sym, ap, subst, true, false, List, [], ◌∷◌, ◌++◌, reverse, ◌⊎◌, inl, inr, ◌≢◌, eqb, length}
+use Rattle.std.proofs.Common.{get_or, take, drop, take-append-drop, arith, eqb-true, eq-eqb}
+use mathlib.Core.List.{reverse-cons, reverse-reverse}
 use Rattle.graphs.specs.Lists.{Mem, elem}
 use Rattle.graphs.proofs.Tests.{clash, not_both, or_cases, or_inl, or_inr}
 

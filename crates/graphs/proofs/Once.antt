@@ -1,14 +1,7 @@
 -- Laws of lists in which nothing stands twice: the test `repeats`, joined lists, a list turned round, and the pigeonhole lemma.
-use Prim.Native.Nat.{ℕ, ◌≤◌, ◌<◌, zero-le, suc-le-suc}
-use mathlib.Core.Path.{◌≡◌, refl, subst}
-use mathlib.Core.Bool.{Bool, true, false, ◌||◌, cond}
-use mathlib.Core.List.{List, [], ◌∷◌, ◌++◌, reverse, reverse-cons}
-use mathlib.Core.Logic.{◌⊎◌, inl, inr}
-use lib.ListN.{length}
-use native.Mathlib.Omega.{arith}
-use native.Mathlib.Nat.{le_refl, le_trans}
-use lib.Dec.{eqb}
-use borrow.Author.Tests.{eq-eqb}
+use Rattle.std.proofs.Common.{ℕ, ◌≤◌, ◌<◌, zero-le, suc-le-suc, ◌≡◌, refl, subst, Bool, true, false, ◌||◌, cond, List, [], ◌∷◌, ◌++◌, reverse, ◌⊎◌, inl, inr}
+use Rattle.std.proofs.Common.{length, arith, le_refl, le_trans, eqb, eq-eqb}
+use mathlib.Core.List.{reverse-cons}
 use Rattle.graphs.specs.Lists.{Mem, Once, elem, repeats, sum}
 use Rattle.graphs.proofs.Tests.{or_left, or_right}
 use Rattle.graphs.proofs.Sum.{sum_lt, sum_all}

@@ -1,12 +1,6 @@
 -- A worker's order of looking shows every successor and nothing else, once for each transition; so a graph with 01's order is sound, whatever
 -- gives its successors.
-use Prim.Native.Nat.{ℕ, ◌<◌, ◌%◌}
-use mathlib.Core.Path.{◌≡◌, ap}
-use mathlib.Core.Bool.{Bool}
-use mathlib.Core.List.{List, ◌++◌}
-use mathlib.Core.Logic.{◌⊎◌, inl, inr}
-use lib.ListN.{length, take, drop, length-append, take-append-drop}
-use native.Mathlib.Omega.{arith}
+use Rattle.std.proofs.Common.{ℕ, ◌<◌, ◌%◌, ◌≡◌, ap, Bool, List, ◌++◌, ◌⊎◌, inl, inr, length, take, drop, length-append, take-append-drop, arith}
 use Rattle.graphs.specs.Lists.{Mem}
 use Rattle.graphs.specs.Graph.{graph, turned, Sound}
 use Rattle.graphs.proofs.Member.{mem_left, mem_right, mem_cases, mem_take, mem_drop}

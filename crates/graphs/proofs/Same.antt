@@ -1,13 +1,6 @@
 -- Laws of `same`, `all` and `any`: tests of lists, word by word.
-use Prim.Native.Nat.{ℕ, zero, suc, ◌<◌}
-use mathlib.Core.Path.{◌≡◌, refl}
-use mathlib.Core.Bool.{Bool, true, false, ◌&&◌, ◌||◌}
-use mathlib.Core.List.{List, [], ◌∷◌, ◌++◌}
-use mathlib.Core.Logic.{◌≢◌}
-use lib.Dec.{eqb}
-use lib.ListN.{length, get_or}
-use borrow.Author.Tests.{eqb-true, eq-eqb}
-use native.Mathlib.Omega.{arith}
+use Rattle.std.proofs.Common.{ℕ, zero, suc, ◌<◌, ◌≡◌, refl, Bool, true, false, ◌&&◌, ◌||◌, List, [], ◌∷◌, ◌++◌, ◌≢◌, eqb, length, get_or, eqb-true, eq-eqb}
+use Rattle.std.proofs.Common.{arith}
 use Rattle.graphs.specs.Lists.{same, all, any}
 use Rattle.graphs.proofs.Tests.{and_cases, clash, not_both, or_left, or_right}
 

@@ -1,15 +1,9 @@
 -- The table of stamps: going through the targets of one source and stamping each finds a stamped one exactly if the targets repeat.
-use Prim.Native.Nat.{ℕ, zero, suc, ◌+◌, ◌-◌, ◌<◌, ◌≤◌, min}
-use mathlib.Core.Path.{◌≡◌, refl, ◌∙◌, fun_ext}
-use mathlib.Core.Bool.{Bool, true, false, not, ◌&&◌}
-use mathlib.Core.List.{List, [], ◌∷◌}
-use mathlib.Core.Logic.{◌⊎◌, inl, inr, ◌≢◌}
-use lib.Dec.{eqb}
-use lib.ListN.{length, get_or, take, drop, set, replicate, length-take, length-drop, drop_of_length-le}
-use lib.Seq.{drop-cons, get_or-set_same, get_or-set_other, get_or-take, get_or-drop}
-use native.Mathlib.Omega.{arith}
-use native.Mathlib.Numerals.{add-one}
-use borrow.Author.Tests.{eq-eqb, ne_eqb, not-true}
+use Rattle.std.proofs.Common.{ℕ, zero, suc, ◌+◌, ◌-◌, ◌<◌, ◌≤◌, min, ◌≡◌, refl, ◌∙◌, Bool, true, false, not, ◌&&◌, List, [], ◌∷◌, ◌⊎◌, inl, inr, ◌≢◌, eqb}
+use Rattle.std.proofs.Common.{length, get_or, take, drop, set, replicate, length-take, length-drop, drop_of_length-le, drop-cons, get_or-set_same}
+use Rattle.std.proofs.Common.{get_or-set_other, get_or-take, get_or-drop, arith, add-one, eq-eqb, ne_eqb}
+use mathlib.Core.Path.{fun_ext}
+use borrow.Author.Tests.{not-true}
 use Rattle.graphs.specs.Lists.{Mem, Once, upd, repeats}
 use Rattle.graphs.proofs.Tests.{either, clash, same?, not_both, and_cases}
 use Rattle.graphs.proofs.Change.{upd_same, upd_other, upd_was}

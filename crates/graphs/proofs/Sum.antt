@@ -1,9 +1,5 @@
 -- Laws of `sum` over the numbers below n: pointwise order, strictness at one place, a bound, and a sum of the same.
-use Prim.Native.Nat.{ℕ, zero, suc, ◌+◌, ◌*◌, ◌≤◌, ◌<◌}
-use mathlib.Core.Path.{◌≡◌, subst}
-use mathlib.Core.Logic.{◌⊎◌, inl, inr, ◌≢◌}
-use native.Mathlib.Omega.{arith}
-use native.Mathlib.Nat.{suc-mul, le_of_lt}
+use Rattle.std.proofs.Common.{ℕ, zero, suc, ◌+◌, ◌*◌, ◌≤◌, ◌<◌, ◌≡◌, subst, ◌⊎◌, inl, inr, ◌≢◌, arith, suc-mul, le_of_lt}
 use Rattle.graphs.specs.Lists.{sum}
 use Rattle.graphs.proofs.Tests.{same?}
 

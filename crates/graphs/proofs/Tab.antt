@@ -1,14 +1,7 @@
 -- Laws of `tab`, the values of a function as a list: their number, the value at a place, one more value, one store for one change, that equal
 -- lists come from equal functions and give them, and whether every or some value passes a test.
-use Prim.Native.Nat.{ℕ, zero, suc, ◌+◌, ◌<◌}
-use mathlib.Core.Path.{◌≡◌, refl, sym, ap, ◌∙◌}
-use mathlib.Core.Bool.{Bool, true, false}
-use mathlib.Core.List.{List, [], ◌∷◌, ◌++◌}
-use mathlib.Core.Logic.{◌≢◌}
-use lib.ListN.{length, get_or, set, length-set}
-use lib.Seq.{ext_get_or, get_or-set_same, get_or-set_other}
-use native.Mathlib.Nat.{add-zero, zero-add}
-use native.Mathlib.Omega.{arith}
+use Rattle.std.proofs.Common.{ℕ, zero, suc, ◌+◌, ◌<◌, ◌≡◌, refl, sym, ap, ◌∙◌, Bool, true, false, List, [], ◌∷◌, ◌++◌, ◌≢◌, length, get_or, set, length-set}
+use Rattle.std.proofs.Common.{ext_get_or, get_or-set_same, get_or-set_other, add-zero, zero-add, arith}
 use Rattle.graphs.specs.Lists.{tab, upd, all, any}
 use Rattle.graphs.proofs.Tests.{or_inl, or_inr}
 use Rattle.graphs.proofs.Change.{upd_ind}

@@ -1,11 +1,7 @@
 -- Laws of tests: a test that holds is written `b ≡ true`, and one that fails `b ≡ false`.
-use Prim.Native.Nat.{ℕ, ◌<◌, ◌≤◌}
-use mathlib.Core.Path.{◌≡◌, refl, sym, ◌∙◌}
-use mathlib.Core.Bool.{Bool, true, false, cond, not, ◌&&◌, ◌||◌}
-use mathlib.Core.Logic.{◌⊎◌, inl, inr, ◌≢◌}
-use lib.Dec.{eqb, ltb}
-use borrow.Author.Tests.{eqb-true, eqb-false, ltb-true, ltb-false, not-true, not-false}
-use native.Mathlib.Omega.{arith}
+use Rattle.std.proofs.Common.{ℕ, ◌<◌, ◌≤◌, ◌≡◌, refl, sym, ◌∙◌, Bool, true, false, cond, not, ◌&&◌, ◌||◌, ◌⊎◌, inl, inr, ◌≢◌, eqb, ltb, eqb-true, ltb-true}
+use Rattle.std.proofs.Common.{ltb-false, arith}
+use borrow.Author.Tests.{eqb-false, not-true, not-false}
 
 pub either : (b : Bool) → (b ≡ true) ⊎ (b ≡ false)
 either true = inl refl

@@ -1,5 +1,5 @@
 -- Laws of walks: joined, made longer by a step, and staying among the states.
-use Prim.Native.Nat.{ℕ, ◌<◌}
+use Rattle.std.proofs.Common.{ℕ, ◌<◌}
 use Rattle.graphs.specs.Graph.{Graph, Edge, Walk, stay, step, Far, Sound}
 
 module _ {g : Graph} where

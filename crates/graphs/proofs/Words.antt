@@ -1,16 +1,7 @@
 -- What `is_graph` says, part by part; that words which are a graph give a sound graph; and that its transitions are E in number.
-use Prim.Native.Nat.{ℕ, zero, suc, ◌+◌, ◌-◌, ◌<◌, ◌≤◌}
-use mathlib.Core.Path.{◌≡◌, sym, ap, ◌∙◌}
-use mathlib.Core.Bool.{true, not}
-use mathlib.Core.List.{List}
-use mathlib.Core.Logic.{◌⊎◌, inl, inr, ◌≢◌}
-use lib.Dec.{leb, ltb}
-use lib.ListN.{length, get_or, take, drop, length-take, length-drop}
-use native.Mathlib.Nat.{le_refl}
-use native.Mathlib.Omega.{arith}
-use native.Mathlib.Numerals.{add-one}
-use borrow.Author.Tests.{leb-true, ltb-true, eqb-true, le-leb, lt-ltb, eq-eqb, not-true}
-use Rattle.std.specs.Prelude.{All}
+use Rattle.std.proofs.Common.{ℕ, zero, suc, ◌+◌, ◌-◌, ◌<◌, ◌≤◌, ◌≡◌, sym, ap, ◌∙◌, true, not, List, ◌⊎◌, inl, inr, ◌≢◌, leb, ltb, length, get_or, take, drop}
+use Rattle.std.proofs.Common.{length-take, length-drop, le_refl, arith, add-one, leb-true, ltb-true, eqb-true, le-leb, lt-ltb, eq-eqb, All}
+use borrow.Author.Tests.{not-true}
 use Rattle.std.proofs.lemmas.Grind.{get_or_default_zero}
 use Rattle.std.proofs.lemmas.List.Elements.{All-take, All-drop}
 use Rattle.graphs.specs.Lists.{Mem, Once, sum, repeats}

@@ -1,11 +1,7 @@
 -- Laws of `bits`, the words of a set below n: their number, one store for one change, that equal words come from equal sets and give them, and the
 -- words of no state and of one.
-use Prim.Native.Nat.{ℕ, ◌<◌}
-use mathlib.Core.Path.{◌≡◌, refl, sym, ◌∙◌, ap}
-use mathlib.Core.Bool.{Bool, true, false}
-use lib.Dec.{eqb}
-use lib.ListN.{length, set, replicate, length-replicate, get_or-replicate}
-use borrow.Author.Tests.{eq-eqb, ne_eqb}
+use Rattle.std.proofs.Common.{ℕ, ◌<◌, ◌≡◌, refl, sym, ◌∙◌, ap, Bool, true, false, eqb, length, set, replicate, eq-eqb, ne_eqb}
+use lib.ListN.{length-replicate, get_or-replicate}
 use Rattle.graphs.specs.Lists.{upd}
 use Rattle.graphs.proofs.Change.{upd_same, upd_other, upd_ind}
 use Rattle.graphs.proofs.Tab.{tab_long, tab_is, tab_ext, tab_same, tab_upd}

@@ -1,12 +1,7 @@
 -- The cases of 01 that are marked *, as rows of a single table under one theorem, computed by the rules themselves; then small graphs on which
 -- slips show, runs to the end, and rooms. A row has what 01 says of the case, and with it the whole tally, every worker's place, and whether the
 -- last turn was a wait.
-use Prim.Native.Nat.{ℕ, ◌-◌}
-use mathlib.Core.Path.{◌≡◌, refl}
-use mathlib.Core.Bool.{Bool, true, false}
-use mathlib.Core.List.{List, [], ◌∷◌, ◌++◌, map}
-use lib.Dec.{ltb}
-use lib.ListN.{length, take, replicate}
+use Rattle.std.proofs.Common.{ℕ, ◌-◌, ◌≡◌, refl, Bool, true, false, List, [], ◌∷◌, ◌++◌, map, ltb, length, take, replicate}
 use Rattle.graphs.specs.Lists.{upd, every}
 use Rattle.graphs.specs.Graph.{Graph, graph, turned}
 use Rattle.graphs.specs.Words.{graph_of, successors, marked}

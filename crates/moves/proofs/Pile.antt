@@ -1,10 +1,8 @@
 -- Laws of `pile`, the words of a stack: their number, one store for one push and one pop, and that piles of stacks as deep tell them apart.
-use Prim.Native.Nat.{ℕ, suc, ◌-◌, ◌<◌, ◌≤◌}
-use mathlib.Core.Path.{◌≡◌, sym, ap, ◌∙◌}
-use mathlib.Core.List.{List, ◌∷◌, ◌++◌, reverse, reverse-cons, reverse-reverse, append_assoc}
-use lib.ListN.{length, set, replicate, length-append, length-reverse, length-replicate}
+use Rattle.std.proofs.Common.{ℕ, suc, ◌-◌, ◌<◌, ◌≤◌, ◌≡◌, sym, ap, ◌∙◌, List, ◌∷◌, ◌++◌, reverse, append_assoc, length, set, replicate, length-append, arith}
+use mathlib.Core.List.{reverse-cons, reverse-reverse}
+use lib.ListN.{length-reverse, length-replicate}
 use lib.Seq.{set_at}
-use native.Mathlib.Omega.{arith}
 use Rattle.moves.specs.Room.{pile}
 use Rattle.moves.proofs.Joined.{split}
 

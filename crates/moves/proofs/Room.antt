@@ -1,12 +1,6 @@
 -- The form of the room. 01: "in a form set in docs/: one form for one state, and different forms for different states". `one_form` and
 -- `forms_differ` say it of machines of n states and P workers; `room_long` says how many words there are.
-use Prim.Native.Nat.{ℕ, zero, suc, ◌+◌, ◌*◌, ◌<◌, ◌≤◌}
-use mathlib.Core.Path.{◌≡◌, refl, sym, ◌∙◌}
-use mathlib.Core.List.{List, ◌++◌}
-use mathlib.Core.Logic.{◌⊎◌, inl, inr, ◌≢◌}
-use lib.ListN.{length, length-append}
-use native.Mathlib.Nat.{suc-mul}
-use native.Mathlib.Omega.{arith}
+use Rattle.std.proofs.Common.{ℕ, zero, suc, ◌+◌, ◌*◌, ◌<◌, ◌≤◌, ◌≡◌, refl, sym, ◌∙◌, List, ◌++◌, ◌⊎◌, inl, inr, ◌≢◌, length, length-append, suc-mul, arith}
 use Rattle.graphs.proofs.Tests.{same?}
 use Rattle.moves.specs.declared.Place.{Place}
 use Rattle.moves.specs.declared.Place.TheVariants.{Fresh, Outer, Inner, Waiting, Done}

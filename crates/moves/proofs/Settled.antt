@@ -1,7 +1,5 @@
 -- A contract that is one equation settles the call: two outcomes that it allows are the same.
-use Prim.Native.Nat.{ℕ}
-use mathlib.Core.Path.{◌≡◌}
-use mathlib.Core.Bool.{Bool}
+use Rattle.std.proofs.Common.{ℕ, ◌≡◌, Bool}
 use Rattle.graphs.proofs.Settled.{settled}
 use Rattle.moves.specs.declared.Place.{Place}
 use Rattle.moves.specs.declared.Move.{Move}

@@ -1,13 +1,8 @@
 -- A worker's stretch in the room. 01: "Apart from the shared colours, each worker writes only its own stretch of the room." `room_at` cuts the
 -- room at a worker's stretch; `move_own_stretch` says of every turn that no other word of the stretches changes.
-use Prim.Native.Nat.{ℕ, zero, suc, ◌+◌, ◌-◌, ◌*◌, ◌<◌, ◌≤◌}
-use mathlib.Core.Path.{◌≡◌, refl, ap, ◌∙◌}
-use mathlib.Core.Bool.{Bool, ◌||◌}
-use mathlib.Core.List.{List, [], ◌∷◌, ◌++◌, append_assoc}
-use mathlib.Core.Logic.{◌⊎◌, inl, inr, ◌≢◌}
-use lib.ListN.{length, get_or}
-use native.Mathlib.Nat.{suc-mul, mul-le-mul_right, zero-add, sub-zero}
-use native.Mathlib.Omega.{arith}
+use Rattle.std.proofs.Common.{ℕ, zero, suc, ◌+◌, ◌-◌, ◌*◌, ◌<◌, ◌≤◌, ◌≡◌, refl, ap, ◌∙◌, Bool, ◌||◌, List, [], ◌∷◌, ◌++◌, append_assoc, ◌⊎◌, inl, inr, ◌≢◌}
+use Rattle.std.proofs.Common.{length, get_or, suc-mul, mul-le-mul_right, zero-add, arith}
+use native.Mathlib.Nat.{sub-zero}
 use Rattle.graphs.specs.Lists.{upd}
 use Rattle.graphs.specs.Graph.{Graph}
 use Rattle.graphs.proofs.Tests.{same?, cond_ind}

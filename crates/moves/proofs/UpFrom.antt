@@ -1,10 +1,5 @@
 -- Laws of `up_from`, the numbers from n on: how many there are, which one stands where, and which they are.
-use Prim.Native.Nat.{ℕ, zero, suc, ◌+◌, ◌<◌, ◌≤◌}
-use mathlib.Core.Path.{◌≡◌, refl, ap, ◌∙◌}
-use mathlib.Core.List.{◌∷◌}
-use mathlib.Core.Logic.{◌⊎◌, inl, inr, ◌≢◌}
-use lib.ListN.{length, get_or}
-use native.Mathlib.Omega.{arith}
+use Rattle.std.proofs.Common.{ℕ, zero, suc, ◌+◌, ◌<◌, ◌≤◌, ◌≡◌, refl, ap, ◌∙◌, ◌∷◌, ◌⊎◌, inl, inr, ◌≢◌, length, get_or, arith}
 use Rattle.graphs.specs.Lists.{Mem}
 use Rattle.graphs.proofs.Tests.{same?}
 use Rattle.moves.specs.Run.{up_from}

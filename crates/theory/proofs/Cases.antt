@@ -1,9 +1,6 @@
 -- The demands at work on 01's 0417 graph with two workers: its words are a graph, P × (1 + 4N + 3E) is 30, and what the run to the end computes is
 -- the lasso that the theorem promises.
-use mathlib.Core.Path.{◌≡◌, refl}
-use mathlib.Core.Bool.{true}
-use mathlib.Core.List.{[], ◌∷◌}
-use native.Mathlib.Omega.{arith}
+use Rattle.std.proofs.Common.{◌≡◌, refl, true, [], ◌∷◌, arith}
 use Rattle.graphs.specs.Lists.{upd, every, sum, elem, repeats}
 use Rattle.graphs.specs.Graph.{Graph, graph, turned, edges}
 use Rattle.graphs.specs.Lasso.{Lasso}

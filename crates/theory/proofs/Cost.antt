@@ -1,15 +1,8 @@
 -- What is left for one worker: more blue and more red do not raise it, and each changing move of the worker lowers it. A move lowers it at one
 -- state, the one that is taken from or leaves its stack, and raises it at none.
-use Prim.Native.Nat.{ℕ, ◌≤◌, ◌<◌, zero-le}
-use mathlib.Core.Path.{◌≡◌, refl, sym, ap, subst, ◌∙◌}
-use mathlib.Core.Bool.{Bool, true, false, cond, not, ◌&&◌, ◌||◌, or_comm}
-use mathlib.Core.List.{List, [], ◌∷◌}
-use mathlib.Core.Logic.{◌⊎◌, inl, inr, ◌≢◌}
-use native.Mathlib.Omega.{arith}
-use native.Mathlib.Nat.{le_refl, add-le-add}
-use lib.Dec.{eqb}
-use lib.ListN.{length, drop, length-drop}
-use borrow.Author.Tests.{eq-eqb, ne_eqb}
+use Rattle.std.proofs.Common.{ℕ, ◌≤◌, ◌<◌, zero-le, ◌≡◌, refl, sym, ap, subst, ◌∙◌, Bool, true, false, cond, not, ◌&&◌, ◌||◌, List, [], ◌∷◌, ◌⊎◌, inl, inr}
+use Rattle.std.proofs.Common.{◌≢◌, arith, le_refl, add-le-add, eqb, length, drop, length-drop, eq-eqb, ne_eqb}
+use mathlib.Core.Bool.{or_comm}
 use Rattle.graphs.specs.Lists.{upd, elem, Mem}
 use Rattle.graphs.specs.Graph.{Graph, Sound}
 use Rattle.graphs.proofs.Tests.{same?, clash, not_both, or_left, or_right}

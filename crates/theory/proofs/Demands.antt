@@ -1,13 +1,6 @@
 -- What a run promises, for all turn lists, all numbers of workers from 1 on, all graphs and all orders of looking (`Sound`). The words in quotes
 -- are those of the demands; a machine that turns can lead to is that of `run g P l`. At the end, the same of the words of a graph.
-use Prim.Native.Nat.{ℕ, ◌+◌, ◌*◌, ◌<◌, ◌≤◌}
-use mathlib.Core.Path.{◌≡◌, sym, ap, subst, ◌∙◌}
-use mathlib.Core.Bool.{true}
-use mathlib.Core.List.{List, [], ◌∷◌, ◌++◌}
-use mathlib.Core.Logic.{◌≢◌, ⊎_elim}
-use native.Mathlib.Omega.{arith}
-use native.Mathlib.Nat.{le_of_eq}
-use lib.ListN.{length, take}
+use Rattle.std.proofs.Common.{ℕ, ◌+◌, ◌*◌, ◌<◌, ◌≤◌, ◌≡◌, sym, ap, subst, ◌∙◌, true, List, [], ◌∷◌, ◌++◌, ◌≢◌, ⊎_elim, arith, le_of_eq, length, take}
 use Rattle.graphs.specs.Lists.{Once}
 use Rattle.graphs.specs.Graph.{Graph, Sound, graph}
 use Rattle.graphs.specs.Lasso.{Lasso, MarkedLoop}

@@ -1,9 +1,5 @@
 -- A worker's stacks and its set R hold only states, and its seed is one; and as nothing stands twice in a stack, no stack is deeper than there are states.
-use Prim.Native.Nat.{ℕ, ◌<◌, ◌≤◌}
-use mathlib.Core.Path.{◌≡◌, refl, sym}
-use mathlib.Core.Bool.{Bool, true}
-use mathlib.Core.Logic.{◌⊎◌, inl, inr}
-use lib.ListN.{length}
+use Rattle.std.proofs.Common.{ℕ, ◌<◌, ◌≤◌, ◌≡◌, refl, sym, Bool, true, ◌⊎◌, inl, inr, length}
 use Rattle.graphs.specs.Lists.{Mem, Once}
 use Rattle.graphs.specs.Graph.{Graph, Walk, stay, Sound}
 use Rattle.graphs.proofs.Tests.{clash}

@@ -1,10 +1,5 @@
 -- What a worker's stacks hold when it takes a cyan successor in the inner search is a lasso in which no state stands twice.
-use Prim.Native.Nat.{ℕ}
-use mathlib.Core.Path.{◌≡◌, subst}
-use mathlib.Core.Bool.{Bool, true}
-use mathlib.Core.List.{List, ◌∷◌, ◌++◌}
-use mathlib.Core.Logic.{◌≢◌}
-use lib.ListN.{drop}
+use Rattle.std.proofs.Common.{ℕ, ◌≡◌, subst, Bool, true, List, ◌∷◌, ◌++◌, ◌≢◌, drop}
 use Rattle.graphs.specs.Lists.{Mem, Once}
 use Rattle.graphs.specs.Graph.{Graph, Sound}
 use Rattle.graphs.specs.Lasso.{Lasso}

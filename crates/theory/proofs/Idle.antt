@@ -1,9 +1,6 @@
 -- The two kinds of move: one that changes something is counted; one that is not counted leaves the machine as it is, and its worker waits for a
 -- state that is not red or is done.
-use Prim.Native.Nat.{ℕ, ◌+◌}
-use mathlib.Core.Path.{◌≡◌, refl}
-use mathlib.Core.Bool.{true, false}
-use mathlib.Core.Logic.{◌⊎◌, inl, inr}
+use Rattle.std.proofs.Common.{ℕ, ◌+◌, ◌≡◌, refl, true, false, ◌⊎◌, inl, inr}
 use Rattle.graphs.specs.Graph.{Graph}
 use Rattle.graphs.proofs.Tests.{clash}
 use Rattle.moves.specs.declared.Place.{Place}

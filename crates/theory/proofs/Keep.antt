@@ -1,11 +1,6 @@
 -- What a worker's own move keeps: `Local` of the worker after each move of 01, from `Local` before it and the conditions of the move's rule.
-use Prim.Native.Nat.{ℕ, suc}
-use mathlib.Core.Path.{◌≡◌, refl, subst, sym, ap, ◌∙◌}
-use mathlib.Core.Bool.{Bool, true, false, cond}
-use mathlib.Core.List.{List, [], ◌∷◌}
-use mathlib.Core.Logic.{◌⊎◌, inl, inr, ◌≢◌, ⊎_map}
-use lib.ListN.{drop}
-use borrow.Author.Tests.{eqb-true, eq-eqb}
+use Rattle.std.proofs.Common.{ℕ, suc, ◌≡◌, refl, subst, sym, ap, ◌∙◌, Bool, true, false, cond, List, [], ◌∷◌, ◌⊎◌, inl, inr, ◌≢◌, drop, eqb-true, eq-eqb}
+use mathlib.Core.Logic.{⊎_map}
 use Rattle.graphs.specs.Lists.{upd, Mem, Once}
 use Rattle.graphs.specs.Graph.{Graph, Edge, Sound}
 use Rattle.graphs.proofs.Tests.{clash, same?}

@@ -1,13 +1,8 @@
 -- The lasso that two stacks give, whatever search they serve: the outer one is a path from the initial state to the seed, the inner one a path
 -- from the seed, and the inner top leads to c on the outer one. Read from their bottoms they are one path, which c cuts into stem and loop.
-use Prim.Native.Nat.{ℕ}
-use mathlib.Core.Path.{◌≡◌, refl, sym, ap, subst, ◌∙◌}
-use mathlib.Core.Bool.{Bool, true, false, cond}
-use mathlib.Core.List.{List, [], ◌∷◌, ◌++◌, reverse, reverse_aux, append_assoc, reverse_aux-eq, reverse-append}
-use mathlib.Core.Logic.{◌⊎◌, inl, inr, ◌≢◌}
-use lib.Dec.{eqb}
-use lib.ListN.{drop}
-use borrow.Author.Tests.{eqb-true, eq-eqb}
+use Rattle.std.proofs.Common.{ℕ, ◌≡◌, refl, sym, ap, subst, ◌∙◌, Bool, true, false, cond, List, [], ◌∷◌, ◌++◌, reverse, append_assoc, ◌⊎◌, inl, inr, ◌≢◌, eqb}
+use Rattle.std.proofs.Common.{drop, eqb-true, eq-eqb}
+use mathlib.Core.List.{reverse_aux, reverse_aux-eq, reverse-append}
 use Rattle.graphs.specs.Lists.{Mem, Once}
 use Rattle.graphs.specs.Graph.{Graph, Edge}
 use Rattle.graphs.specs.Lasso.{Linked, final, Lasso}

@@ -1,9 +1,6 @@
 -- What is known of a worker whose place is known; and it stays known while others move, since blue and dead only grow.
-use Prim.Native.Nat.{ℕ}
-use mathlib.Core.Path.{◌≡◌, subst, sym, ◌∙◌}
-use mathlib.Core.Bool.{Bool, true}
+use Rattle.std.proofs.Common.{ℕ, ◌≡◌, subst, sym, ◌∙◌, Bool, true, List, ◌∷◌}
 use mathlib.Core.Logic.{⊎_map}
-use mathlib.Core.List.{List, ◌∷◌}
 use Rattle.graphs.specs.Graph.{Graph}
 use Rattle.moves.specs.declared.Place.{Place}
 use Rattle.moves.specs.declared.Place.TheVariants.{Fresh, Outer, Inner, Waiting, Done}

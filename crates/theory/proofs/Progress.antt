@@ -1,15 +1,10 @@
 -- The workers never all stand and wait: some worker can make a move that changes something, or all are done. If none could, each waiting worker's
 -- seed would lead by a step or more to the seed of a waiting worker, and after more such steps than there are workers some seed would come up
 -- twice and lie on a loop, which the seed of a waiting worker does not.
-use Prim.Native.Nat.{ℕ, zero, suc, ◌+◌, ◌<◌}
-use mathlib.Core.Path.{◌≡◌, refl, subst, sym, ◌∙◌}
-use mathlib.Core.Bool.{Bool, true, false, not, ◌&&◌, ◌||◌}
-use mathlib.Core.List.{List, [], ◌∷◌}
-use mathlib.Core.Logic.{◌⊎◌, inl, inr, ◌≢◌, ⊎_elim, ⊎_map}
-use native.Mathlib.Omega.{arith}
-use lib.Dec.{eqb}
-use lib.ListN.{length}
-use borrow.Author.Tests.{not-true, not-false, eq-eqb}
+use Rattle.std.proofs.Common.{ℕ, zero, suc, ◌+◌, ◌<◌, ◌≡◌, refl, subst, sym, ◌∙◌, Bool, true, false, not, ◌&&◌, ◌||◌, List, [], ◌∷◌, ◌⊎◌, inl, inr, ◌≢◌}
+use Rattle.std.proofs.Common.{⊎_elim, arith, eqb, length, eq-eqb}
+use mathlib.Core.Logic.{⊎_map}
+use borrow.Author.Tests.{not-true, not-false}
 use Rattle.graphs.specs.Lists.{Mem, Once, elem}
 use Rattle.graphs.specs.Graph.{Graph, Walk, Far, Sound}
 use Rattle.graphs.proofs.Tests.{clash, either, below?, or_left, or_right, and_cases}

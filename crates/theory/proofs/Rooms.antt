@@ -1,10 +1,6 @@
 -- The room of every machine that turns can lead to: its stacks fit, so that it has the words that 01 counts and tells the machine; and a turn
 -- writes only the shared colours and its worker's own stretch.
-use Prim.Native.Nat.{ℕ, suc, ◌*◌, ◌<◌, ◌≤◌}
-use mathlib.Core.Path.{◌≡◌, refl}
-use mathlib.Core.List.{List, [], ◌∷◌, ◌++◌}
-use mathlib.Core.Logic.{◌⊎◌, inl, inr}
-use lib.ListN.{length, get_or}
+use Rattle.std.proofs.Common.{ℕ, suc, ◌*◌, ◌<◌, ◌≤◌, ◌≡◌, refl, List, [], ◌∷◌, ◌++◌, ◌⊎◌, inl, inr, length, get_or}
 use Rattle.graphs.specs.Lists.{Mem}
 use Rattle.graphs.specs.Graph.{Graph, Sound}
 use Rattle.graphs.proofs.Member.{mem_cases}

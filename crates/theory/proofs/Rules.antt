@@ -1,8 +1,5 @@
 -- A turn goes by the rules: where a worker in a search has its stack, what its turn makes is one of the lines of `Rule`.
-use Prim.Native.Nat.{ℕ}
-use mathlib.Core.Path.{◌≡◌, refl}
-use mathlib.Core.Bool.{◌||◌}
-use mathlib.Core.List.{List, [], ◌∷◌}
+use Rattle.std.proofs.Common.{ℕ, ◌≡◌, refl, ◌||◌, List, [], ◌∷◌}
 use Rattle.graphs.specs.Graph.{Graph}
 use Rattle.graphs.proofs.Tests.{cond_ind}
 use Rattle.moves.specs.declared.Place.{Place}

@@ -1,12 +1,6 @@
 -- A run, turn by turn: each turn makes what the rules make of the result before it, an answer stays, "undecided" has used every turn, and
 -- wherever turns lead the answer is right.
-use Prim.Native.Nat.{ℕ, suc, ◌+◌, ◌<◌, ◌≤◌}
-use mathlib.Core.Path.{◌≡◌, refl, sym, ap, ◌∙◌}
-use mathlib.Core.Bool.{true, false, cond}
-use mathlib.Core.List.{List, [], ◌∷◌, ◌++◌}
-use mathlib.Core.Logic.{◌⊎◌, inl, inr}
-use native.Mathlib.Omega.{arith}
-use lib.ListN.{length, take}
+use Rattle.std.proofs.Common.{ℕ, suc, ◌+◌, ◌<◌, ◌≤◌, ◌≡◌, refl, sym, ap, ◌∙◌, true, false, cond, List, [], ◌∷◌, ◌++◌, ◌⊎◌, inl, inr, arith, length, take}
 use Rattle.graphs.specs.Graph.{Graph, Sound}
 use Rattle.graphs.specs.Lasso.{MarkedLoop}
 use Rattle.graphs.proofs.Tests.{either}

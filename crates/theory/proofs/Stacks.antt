@@ -1,10 +1,6 @@
 -- What each change of a worker's stacks keeps of `Stacks`, for any search: the first state, a state pushed, a successor taken, the top popped,
 -- and a change of the inner stack only.
-use Prim.Native.Nat.{ℕ, suc}
-use mathlib.Core.Path.{◌≡◌, refl, subst, sym, ◌∙◌}
-use mathlib.Core.Bool.{Bool, true, false}
-use mathlib.Core.List.{List, [], ◌∷◌}
-use mathlib.Core.Logic.{◌⊎◌, inl, inr, ◌≢◌}
+use Rattle.std.proofs.Common.{ℕ, suc, ◌≡◌, refl, subst, sym, ◌∙◌, Bool, true, false, List, [], ◌∷◌, ◌⊎◌, inl, inr, ◌≢◌}
 use Rattle.graphs.specs.Lists.{upd, Mem, Once}
 use Rattle.graphs.specs.Graph.{Graph, Edge}
 use Rattle.graphs.proofs.Tests.{clash, same?}

@@ -1,9 +1,5 @@
 -- Which successors are taken: after one more is taken, after the count is set back to 0, and where none is left.
-use Prim.Native.Nat.{ℕ, suc}
-use mathlib.Core.Path.{◌≡◌, subst, sym}
-use mathlib.Core.List.{List, [], ◌∷◌}
-use mathlib.Core.Logic.{◌⊎◌, inl, inr, ◌≢◌}
-use lib.ListN.{take, drop}
+use Rattle.std.proofs.Common.{ℕ, suc, ◌≡◌, subst, sym, List, [], ◌∷◌, ◌⊎◌, inl, inr, ◌≢◌, take, drop}
 use Rattle.graphs.specs.Lists.{upd, Mem}
 use Rattle.graphs.specs.Graph.{Graph, Edge, Sound}
 use Rattle.graphs.proofs.Tests.{same?}

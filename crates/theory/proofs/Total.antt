@@ -1,12 +1,7 @@
 -- The total of what is left: it is P × (1 + 4N + 3E) at the start, falls with every move that changes something, and rises with none. So the tally
 -- of a run never counts more such moves than that.
-use Prim.Native.Nat.{ℕ, zero, suc, ◌+◌, ◌*◌, ◌≤◌, ◌<◌}
-use mathlib.Core.Path.{◌≡◌, refl, ap, ◌∙◌}
-use mathlib.Core.Bool.{Bool, true, false, cond, not, ◌&&◌}
-use lib.Dec.{eqb}
-use lib.ListN.{length}
-use native.Mathlib.Omega.{arith}
-use native.Mathlib.Nat.{le_of_lt, le_of_eq}
+use Rattle.std.proofs.Common.{ℕ, zero, suc, ◌+◌, ◌*◌, ◌≤◌, ◌<◌, ◌≡◌, refl, ap, ◌∙◌, Bool, true, false, cond, not, ◌&&◌, eqb, length, arith, le_of_lt}
+use Rattle.std.proofs.Common.{le_of_eq}
 use Rattle.graphs.specs.Lists.{upd, sum, elem}
 use Rattle.graphs.specs.Graph.{Graph, Sound, edges}
 use Rattle.graphs.proofs.Tests.{clash, or_inl}

@@ -1,8 +1,5 @@
 -- Laws of trails: one walks from the bottom of the stack to any of it, and from any of it to the top; so a stack from a state holds only states.
-use Prim.Native.Nat.{ℕ, ◌<◌}
-use mathlib.Core.Path.{sym}
-use mathlib.Core.List.{List, [], ◌∷◌}
-use mathlib.Core.Logic.{inl, inr}
+use Rattle.std.proofs.Common.{ℕ, ◌<◌, sym, List, [], ◌∷◌, inl, inr}
 use Rattle.graphs.specs.Lists.{Mem}
 use Rattle.graphs.specs.Graph.{Graph, Walk, stay, Sound}
 use Rattle.graphs.proofs.Walk.{walk_end, walk_inside}

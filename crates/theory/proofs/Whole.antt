@@ -1,12 +1,7 @@
 -- The invariant of the whole machine: the start has it, and every move but the take that answers "cycle" keeps it. On the way: the seed of a
 -- waiting worker lies on no loop.
-use Prim.Native.Nat.{ℕ, ◌<◌, ◌≤◌}
-use mathlib.Core.Path.{◌≡◌, refl, subst, sym, ap, ◌∙◌}
-use mathlib.Core.Bool.{true, false, cond}
-use mathlib.Core.List.{List, [], ◌∷◌}
-use mathlib.Core.Logic.{◌⊎◌, inl, inr, ◌≢◌, ⊎_swap, ⊎_map, ⊎_elim}
-use native.Mathlib.Omega.{arith}
-use borrow.Author.Tests.{ne_eqb}
+use Rattle.std.proofs.Common.{ℕ, ◌<◌, ◌≤◌, ◌≡◌, refl, subst, sym, ap, ◌∙◌, true, false, cond, List, [], ◌∷◌, ◌⊎◌, inl, inr, ◌≢◌, ⊎_elim, arith, ne_eqb}
+use mathlib.Core.Logic.{⊎_swap, ⊎_map}
 use Rattle.graphs.specs.Lists.{upd, Mem}
 use Rattle.graphs.specs.Graph.{Graph, Edge, Walk, stay, step, Far, Sound}
 use Rattle.graphs.proofs.Tests.{clash, same?, below?, or_cases, or_inl, or_inr, or_left}

@@ -1,6 +1,5 @@
 -- `none_twice` meets its contract. No state before s has a target twice, and no stamp in the table is above s.
-use Rattle.std.proofs.Common.{rules, sym, refl, arith}
-use mathlib.Core.Bool.{not}
+use Rattle.std.proofs.Common.{rules, sym, refl, arith, not}
 use Rattle.graphs.specs.Lists.{every, repeats}
 use Rattle.graphs.specs.Words.{most_states, none_twice, successors}
 use Rattle.graphs.proofs.Every.{every_not}

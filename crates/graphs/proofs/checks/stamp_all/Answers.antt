@@ -1,6 +1,5 @@
 -- `stamp_all` meets its contract. What is left of the targets is unseen exactly if the whole does not repeat: seen is what has the stamp.
-use Rattle.std.proofs.Common.{rules, sym, ap, ◌∙◌, arith, ◌<◌, ◌+◌, length, get_or, drop, set}
-use borrow.Author.Tests.{eq-eqb, ne_eqb}
+use Rattle.std.proofs.Common.{rules, sym, ap, ◌∙◌, arith, ◌<◌, ◌+◌, length, get_or, drop, set, eq-eqb, ne_eqb}
 use Rattle.graphs.proofs.Stamps.{stamped, unseen, unseen_repeats, unseen_hit, unseen_step, unseen_end, stamped_none, stamped_set, set_bound}
 use Rattle.graphs.proofs.checks.stamp_all.Goals as goal
 

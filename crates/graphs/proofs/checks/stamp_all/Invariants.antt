@@ -1,6 +1,5 @@
 -- `stamp_all` meets its contract. What is left of the targets is unseen exactly if the whole does not repeat: seen is what has the stamp.
-use Rattle.std.proofs.Common.{ℕ, ◌+◌, ◌<◌, ◌≡◌, length, get_or, drop}
-use mathlib.Core.Bool.{not}
+use Rattle.std.proofs.Common.{ℕ, ◌+◌, ◌<◌, ◌≡◌, length, get_or, drop, not}
 use Rattle.graphs.specs.Lists.{repeats}
 use Rattle.graphs.proofs.Stamps.{unseen, stamped}
 use Rattle.graphs.proofs.checks.stamp_all.Given as goal
