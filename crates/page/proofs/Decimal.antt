@@ -11,6 +11,7 @@ use native.Mathlib.Omega.{arith}
 use borrow.Author.Tests.{lt-ltb, le-ltb}
 use Rattle.graphs.proofs.Tests.{below?}
 use Rattle.page.specs.Numbers.{digit, digits, decimal}
+use Rattle.page.proofs.Written as Written
 
 digits_one : (k n : ℕ) → n < 10 → digits (suc k) n ≡ digit n ∷ []
 unfolding digits
@@ -37,9 +38,10 @@ unfolding decimal
 decimal_more n h high =
     digits_step 19 n high ∙ ap (λ l. l ++ (digit (n % 10) ∷ [])) (sym (digits_more 18 (n / 10) (omega (arith, h))))
 
-pub decimal_one : (n : ℕ) → n < 10 → decimal n ≡ digit n ∷ []
+-- the last digit is the only one
+pub decimal_one : (n : ℕ) → n < 10 → decimal n ≡ digit (n % 10) ∷ []
 unfolding decimal
-decimal_one = digits_one 19
+decimal_one n h = let last : n ≡ n % 10 = omega arith in digits_one 19 n h ∙ ap (λ d. digit d ∷ []) last
 
 digits_long : (k n : ℕ) → length (digits k n) ≤ k
 unfolding digits
@@ -53,3 +55,6 @@ digits_long (suc k) n = go (ltb n 10) (digits_long k (n / 10))
 pub decimal_long : (n : ℕ) → length (decimal n) ≤ 20
 unfolding decimal
 decimal_long n = digits_long 20 n
+
+-- what a check uses where the digits of a number are written
+pub ruleset laws = (Written.laws, decimal_more, decimal_one)

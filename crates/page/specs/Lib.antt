@@ -1,4 +1,3 @@
--- What is written into a page, in the order of reading: words as bytes, numbers, and the page.
-pub mod Words
+-- What is written into a page: numbers as bytes, and the page.
 pub mod Numbers
 pub mod Page

@@ -1,6 +1,5 @@
 -- Numbers as decimal digits, and lines of numbers.
-use Rattle.std.specs.Prelude.{ℕ, zero, suc, ◌+◌, ◌/◌, ◌%◌, cond, List, [], ◌∷◌, ◌++◌, ltb}
-use Rattle.page.specs.Words.{bytes, joined}
+use Rattle.std.specs.Prelude.{ℕ, zero, suc, ◌+◌, ◌/◌, ◌%◌, cond, List, [], ◌∷◌, ◌++◌, ltb, codes, flat_map}
 
 -- the byte of a digit: `0` is 48
 abbrev pub digit : ℕ → ℕ
@@ -17,11 +16,11 @@ decimal n = digits 20 n
 
 -- 01: "fields parted by one tab"
 unfoldable pub field : ℕ → List ℕ
-field n = bytes "\t" ++ decimal n
+field n = codes "\t" ++ decimal n
 
 abbrev pub fields : List ℕ → List ℕ
-fields numbers = joined field numbers
+fields numbers = flat_map field numbers
 
 -- 01: "each line ended by a line feed"
 unfoldable pub numbers_line : List ℕ → List ℕ → List ℕ
-numbers_line word numbers = word ++ (fields numbers ++ bytes "\n")
+numbers_line word numbers = word ++ (fields numbers ++ codes "\n")

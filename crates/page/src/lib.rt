@@ -1,58 +1,59 @@
-// Writing into a page, bytes that the caller lends: bytes, numbers, and lines of numbers. Each function writes from a place on, and answers where it
-// ended; what it asks is that the page holds what is written.
+// Writing on a page: bytes that the caller lends, and how far they are written. What each method asks is that the page has room for what it writes.
 #![tactic(auto)]
+
+ghost use Rattle.std.specs.Prelude.{length, ◌≤◌};
 
 mod number;
 
-ghost use Rattle.std.specs.Prelude.{length, ◌≡◌};
-ghost use Rattle.page.specs.Page.{Holds, written, puts};
-ghost use Rattle.page.specs.Numbers.{field, fields, numbers_line};
+#[derive(Drop)]
+pub struct Page<'a> {
+    pub bytes: &'a mut [u8],
+    pub len: usize,
+    pub ghost within: { len ≤ length bytes.now },
+}
 
-pub use number::put_number;
+impl Page<'_> {
+    ghost use Rattle.page.specs.Page.{Holds, Adds};
+    ghost use Rattle.page.specs.Numbers.{field, fields, numbers_line};
 
-pub fn put(page: &mut [u8], at: usize, bytes: &[u8]) -> usize
-    requires { Holds page.old at bytes.now }
-    ensures { written result page.new ≡ puts page.old at bytes.now }
-{
-    let mut i = 0;
-    while i < bytes.len() {
-        page[at + i] = bytes[i];
-        i += 1;
+    #[tactic(auto, unfolding(crate::specs::Page::onto))]
+    pub fn put(&mut self, more: &[u8])
+        requires { Holds self.old more.now }
+        ensures { Adds self.old self.new more.now }
+    {
+        let end = self.len + more.len();
+        self.bytes[self.len..end].copy_from_slice(more);
+        self.len = end;
     }
-    at + i
-}
 
-// A field for each number: a tab, and its digits.
-pub fn put_fields(page: &mut [u8], at: usize, numbers: &[u64]) -> usize
-    requires { Holds page.old at (fields numbers.now) }
-    ensures { written result page.new ≡ puts page.old at (fields numbers.now) }
-{
-    let mut end = at;
-    let mut i = 0;
-    while i < numbers.len() {
-        end = put_field(page, end, numbers[i]);
-        i += 1;
+    // A field for each number: a tab, and its digits.
+    #[tactic(auto, using(crate::proofs::Written::laws))]
+    pub fn put_fields(&mut self, numbers: &[u64])
+        requires { Holds self.old (fields numbers.now) }
+        ensures { Adds self.old self.new (fields numbers.now) }
+    {
+        for &n in numbers {
+            self.put_field(n);
+        }
     }
-    end
-}
 
-#[tactic(auto, unfolding(crate::specs::Numbers::field, crate::specs::Words::bytes))]
-fn put_field(page: &mut [u8], at: usize, n: u64) -> usize
-    requires { Holds page.old at (field n) }
-    ensures { written result page.new ≡ puts page.old at (field n) }
-{
-    let end = put(page, at, b"\t");
-    put_number(page, end, n)
-}
+    #[tactic(auto, using(crate::proofs::Written::laws), unfolding(crate::specs::Numbers::field))]
+    fn put_field(&mut self, n: u64)
+        requires { Holds self.old (field n) }
+        ensures { Adds self.old self.new (field n) }
+    {
+        self.put(b"\t");
+        self.put_number(n);
+    }
 
-// A line: the word, the fields, and a line feed.
-#[tactic(auto, unfolding(crate::specs::Numbers::numbers_line, crate::specs::Words::bytes))]
-pub fn put_numbers(page: &mut [u8], at: usize, word: &[u8], numbers: &[u64]) -> usize
-    requires { Holds page.old at (numbers_line word.now numbers.now) }
-    ensures { written result page.new
-        ≡ puts page.old at (numbers_line word.now numbers.now) }
-{
-    let a = put(page, at, word);
-    let b = put_fields(page, a, numbers);
-    put(page, b, b"\n")
+    // A line: the word, the fields, and a line feed.
+    #[tactic(auto, using(crate::proofs::Written::laws), unfolding(crate::specs::Numbers::numbers_line))]
+    pub fn put_numbers(&mut self, word: &[u8], numbers: &[u64])
+        requires { Holds self.old (numbers_line word.now numbers.now) }
+        ensures { Adds self.old self.new (numbers_line word.now numbers.now) }
+    {
+        self.put(word);
+        self.put_fields(numbers);
+        self.put(b"\n");
+    }
 }

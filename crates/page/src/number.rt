@@ -1,24 +1,18 @@
 // A number as its decimal digits.
-ghost use Rattle.std.specs.Prelude.{◌≡◌, ◌<◌, [], ◌∷◌};
-ghost use Rattle.page.specs.Page.{Holds, written, puts};
-ghost use Rattle.page.specs.Numbers.{digit, decimal};
+use crate::Page;
 
-pub fn put_number(page: &mut [u8], at: usize, n: u64) -> usize
-    requires { Holds page.old at (decimal n) }
-    ensures { written result page.new ≡ puts page.old at (decimal n) }
-{
-    let one_digit = n < 10;
-    if one_digit {
-        return put_digit(page, at, n);
+impl Page<'_> {
+    ghost use Rattle.page.specs.Page.{Holds, Adds};
+    ghost use Rattle.page.specs.Numbers.{decimal};
+
+    #[tactic(auto, using(crate::proofs::Decimal::laws))]
+    pub fn put_number(&mut self, n: u64)
+        requires { Holds self.old (decimal n) }
+        ensures { Adds self.old self.new (decimal n) }
+    {
+        if n >= 10 {
+            self.put_number(n / 10);
+        }
+        self.put(&[b'0' + (n % 10) as u8]);
     }
-    let end = put_number(page, at, n / 10);
-    put_digit(page, end, n % 10)
-}
-
-fn put_digit(page: &mut [u8], at: usize, d: u64) -> usize
-    requires { Holds page.old at (digit d ∷ []) × (d < 10) }
-    ensures { written result page.new ≡ puts page.old at (digit d ∷ []) }
-{
-    page[at] = b'0' + d as u8;
-    at + 1
 }

@@ -1,5 +1,5 @@
 -- The number falls at each call of `put_number`.
-use Rattle.page.proofs.number.+put_number.Given as goal
+use Rattle.page.proofs.Page.+put_number.Given as goal
 
 abbrev pub decreases-put_number : goal.decreases-put_number
 decreases-put_number l = l.n
