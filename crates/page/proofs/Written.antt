@@ -5,7 +5,8 @@ use lib.Seq.{drop-drop}
 use native.Mathlib.Nat.{add-zero}
 use Rattle.std.proofs.lemmas.Grind.{common_steps}
 use Rattle.std.proofs.lemmas.List.Folds.{length-flat_map-take}
-use Rattle.page.specs.Page.{Page, written, onto, puts}
+use Rattle.page.specs.declared.Page.{Page as Lent}
+use Rattle.page.specs.Page.{Page, written, onto, puts, Adds}
 
 -- nothing is written
 pub onto_none : (page : Page) → page ≡ onto page []
@@ -43,6 +44,15 @@ onto_onto p l m =
     ≡ take p.end p.bytes ++ ((l ++ m) ++ drop (p.end + length (l ++ m)) p.bytes) =
     rw (front p.end p.bytes l, back p.end (length m) p.bytes l, ends, append_assoc (take p.end p.bytes) l _, append_assoc l m _) in
     (λ i. record { end = ends i; bytes = all i })
+
+pub adds_then : {old mid new : Lent} (l m : List ℕ) → Adds old mid l → Adds mid new m → Adds old new (l ++ m)
+adds_then {old} {mid} {new} l m first rest =
+    record {
+      wrote = rest.wrote ∙ ap (λ p. onto p m) first.wrote ∙ onto_onto (written old.len old.bytes.now) l m;
+      end = omega (arith, first.end, rest.end, length-append l m);
+      long = rest.long ∙ first.long;
+      same = rest.same ∙ first.same;
+    }
 
 -- what is written from the front on lies within the page
 pub written_within : (page l : List ℕ) {a : ℕ} {p : List ℕ} → written a p ≡ puts page 0 l → a ≤ length p

@@ -1,5 +1,4 @@
--- Laws of what is printed: a label as a part of the text, a piece for each of the numbers below P, and the end of an answer; and lines by computing.
-pub mod Part
+-- Laws of what is printed of states and workers; and lines by computing.
+pub mod Labelled
 pub mod Below
-pub mod Answered
 pub mod Cases

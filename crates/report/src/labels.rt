@@ -1,58 +1,52 @@
 // A state's label, from the text by its place, and a line for each state of a list.
-ghost use Rattle.std.specs.Prelude.{◌≡◌};
-ghost use Rattle.page.specs.Page.{Holds, written, puts};
-ghost use Rattle.text.specs.Labels.{label_at};
+ghost use Rattle.page.specs.Page.{Holds, Adds};
+ghost use Rattle.report.specs.Shows.{label_of, Labelled, ShowsAll};
 ghost use Rattle.report.specs.Report.{state_line, state_lines};
-ghost use Rattle.report.specs.Shows.{Labelled, Labels};
 
-use page::put;
-use words::wide;
+use page::Page;
 
-#[tactic(auto, using(crate::proofs::Part::part_label))]
-pub fn put_label(page: &mut [u8], at: usize, text: &[u8], places: &[u32], s: u16) -> usize
-    requires { Labelled text.now places.now s × Holds page.old at (label_at text.now places.now s) }
-    ensures { written result page.new
-        ≡ puts page.old at (label_at text.now places.now s) }
-{
-    let i = 2 * wide(s);
-    let start = places[i] as usize;
-    let end = start + places[i + 1] as usize;
-    put(page, at, &text[start..end])
+// The labels of a text's states: `places` has two words for each state, where its label starts in the text, and how long it is.
+#[derive(Clone, Copy)]
+pub struct Labels<'a> {
+    pub text: &'a [u8],
+    pub places: &'a [u32],
+}
+
+impl<'a> Labels<'a> {
+    ghost use Rattle.std.specs.Prelude.{◌≡◌};
+    ghost use Rattle.report.specs.Shows.{label_of, Labelled};
+
+    #[tactic(auto, unfolding(text::specs::Labels::label_at))]
+    pub fn label(&self, s: u16) -> &'a [u8]
+        requires { Labelled self.now s }
+        ensures { result.now ≡ label_of self.now s }
+    {
+        let i = 2 * usize::from(s);
+        let start = self.places[i] as usize;
+        let end = start + self.places[i + 1] as usize;
+        &self.text[start..end]
+    }
 }
 
 // 01: "one line a state of stem and of loop, in order"
-#[tactic(auto, using(page::proofs::Pieces::pieces_none))]
-pub fn put_states(
-    page: &mut [u8],
-    at: usize,
-    word: &[u8],
-    text: &[u8],
-    places: &[u32],
-    states: &[u16],
-) -> usize
-    requires { Labels text.now places.now states.now
-        × Holds page.old at (state_lines word.now (label_at text.now places.now) states.now) }
-    ensures { written result page.new
-        ≡ puts page.old at
-        (state_lines word.now (label_at text.now places.now) states.now) }
+#[tactic(auto, using(page::proofs::Written::laws))]
+pub fn put_states(page: &mut Page<'_>, word: &[u8], labels: &Labels<'_>, states: &[u16])
+    requires labels { ShowsAll labels.now states.now }
+    requires room { Holds page.old (state_lines word.now (label_of labels.now) states.now) }
+    ensures { Adds page.old page.new (state_lines word.now (label_of labels.now) states.now) }
 {
-    let mut end = at;
-    let mut i = 0;
-    while i < states.len() {
-        end = put_state(page, end, word, text, places, states[i]);
-        i += 1;
+    for &s in states {
+        put_state(page, word, labels, s);
     }
-    end
 }
 
-fn put_state(page: &mut [u8], at: usize, word: &[u8], text: &[u8], places: &[u32], s: u16) -> usize
-    requires { Labelled text.now places.now s
-        × Holds page.old at (state_line word.now (label_at text.now places.now s)) }
-    ensures { written result page.new
-        ≡ puts page.old at
-        (state_line word.now (label_at text.now places.now s)) }
+#[tactic(auto, using(page::proofs::Written::laws), unfolding(crate::specs::Report::state_line))]
+fn put_state(page: &mut Page<'_>, word: &[u8], labels: &Labels<'_>, s: u16)
+    requires label { Labelled labels.now s }
+    requires room { Holds page.old (state_line word.now (label_of labels.now s)) }
+    ensures { Adds page.old page.new (state_line word.now (label_of labels.now s)) }
 {
-    let a = put(page, at, word);
-    let b = put_label(page, a, text, places, s);
-    put(page, b, b"\n")
+    page.put(word);
+    page.put(labels.label(s));
+    page.put(b"\n");
 }

@@ -1,169 +1,129 @@
-// The lines that the programs print, written into a lent page: 01 "The program", and those of `replay`.
+// The lines that the programs print, written on a page: 01 "The program", and those of `replay`.
 #![tactic(auto)]
 
 mod labels;
 mod workers;
 
-ghost use Rattle.std.specs.Prelude.{◌≡◌, ◌++◌};
+ghost use Rattle.std.specs.Prelude.{◌++◌, Err};
 ghost use Rattle.ends.specs.Told.{told};
-ghost use Rattle.page.specs.Page.{Holds, written, puts};
+ghost use Rattle.page.specs.Page.{Holds, Adds};
 ghost use Rattle.statelist.specs.Told.{told as told_reading};
-ghost use Rattle.text.specs.Labels.{label_at};
-ghost use Rattle.report.specs.Report.{refused_line, reading_line, tally_line, cycle_lines, run_lines, used_of, end_lines};
-ghost use Rattle.report.specs.Shows.{Labels, Shows, ShowsEnd};
+ghost use Rattle.report.specs.Shows.{label_of, Shows, ShowsAll, ShowsWorkers, ShowsEnd};
+ghost use Rattle.report.specs.Report.{refused_line, reading_line, tally_line, cycle_lines, run_lines, used_lines, end_lines};
 
 use ends::Outcome;
+pub use labels::Labels;
 use labels::put_states;
+use limits::RunError;
 use moves::Tally;
-use page::{put, put_numbers};
-use refusals::{Refusal, of_reading, of_run};
-use statelist::Reading;
+use page::Page;
+use refusals::Refusal;
+use statelist::ReadError;
 use workers::put_workers;
 
-#[tactic(auto, unfolding(crate::specs::Report::refused_line, page::specs::Words::bytes))]
-pub fn put_refusal(page: &mut [u8], at: usize, number: u64, line: u64) -> usize
-    requires { Holds page.old at (refused_line number line) }
-    ensures { written result page.new ≡ puts page.old at (refused_line number line) }
+#[tactic(auto, unfolding(crate::specs::Report::refused_line))]
+pub fn put_refusal(page: &mut Page<'_>, refusal: Refusal)
+    requires { Holds page.old (refused_line refusal.number refusal.line) }
+    ensures { Adds page.old page.new (refused_line refusal.number refusal.line) }
 {
-    put_numbers(page, at, b"refused", &[number, line])
+    page.put_numbers(
+        b"refused",
+        &[u64::from(refusal.number), refusal.line as u64],
+    );
 }
 
-// The refusal that a reading came to; nothing for a graph.
-#[tactic(auto, using(page::proofs::Written::puts_none, refusals::proofs::Numbers::reading_graph))]
-pub fn put_reading(page: &mut [u8], at: usize, reading: Reading) -> usize
-    requires { Holds page.old at (reading_line (told_reading reading)) }
-    ensures { written result page.new ≡ puts page.old at (reading_line (told_reading reading)) }
+// The refusal that a reading came to.
+pub fn put_reading(page: &mut Page<'_>, error: ReadError)
+    requires { Holds page.old (reading_line (told_reading (Err error))) }
+    ensures { Adds page.old page.new (reading_line (told_reading (Err error))) }
 {
-    let refusal = of_reading(reading);
-    if refusal.number == 0 {
-        return at;
-    }
-    put_refused(page, at, refusal)
-}
-
-fn put_refused(page: &mut [u8], at: usize, refusal: Refusal) -> usize
-    requires { Holds page.old at (refused_line refusal.number refusal.line) }
-    ensures { written result page.new ≡ puts page.old at (refused_line refusal.number refusal.line) }
-{
-    put_refusal(page, at, refusal.number as u64, refusal.line as u64)
+    put_refusal(page, error.into());
 }
 
 // What a run came to: the answer with stem and loop, and the tally; or the refusal.
-#[tactic(auto, unfolding(page::specs::Words::bytes))]
 pub fn put_run(
-    page: &mut [u8],
-    at: usize,
-    text: &[u8],
-    places: &[u32],
+    page: &mut Page<'_>,
+    labels: &Labels<'_>,
     lasso: &[u16],
-    outcome: Outcome,
+    outcome: Result<Outcome, RunError>,
     tally: Tally,
-) -> usize
-    requires { Shows text.now places.now lasso.now (told outcome)
-        × Holds page.old at (run_lines (label_at text.now places.now) lasso.now (told outcome) tally) }
-    ensures { written result page.new
-        ≡ puts page.old at
-        (run_lines (label_at text.now places.now) lasso.now (told outcome) tally) }
+)
+    requires labels { Shows labels.now lasso.now (told outcome) }
+    requires room { Holds page.old (run_lines (label_of labels.now) lasso.now (told outcome) tally) }
+    ensures { Adds page.old page.new (run_lines (label_of labels.now) lasso.now (told outcome) tally) }
 {
     match outcome {
-        Outcome::Cycle {
-            stem,
-            loop_,
-            used: _,
-        } => put_cycle(
-            page,
-            at,
-            text,
-            places,
-            &lasso[..stem],
-            &lasso[stem..stem + loop_],
-            tally,
-        ),
-        Outcome::None { used: _ } => put_answer(page, at, b"answer\tnone\n", tally),
-        Outcome::Undecided { used: _ } => put_answer(page, at, b"answer\tundecided\n", tally),
-        _ => put_refused(page, at, of_run(outcome)),
+        Ok(Outcome::Cycle { stem, loop_, .. }) => {
+            let (stem, rest) = lasso.split_at(stem);
+            put_cycle(page, labels, stem, &rest[..loop_], tally);
+        }
+        Ok(Outcome::None { .. }) => put_answer(page, b"answer\tnone\n", tally),
+        Ok(Outcome::Undecided { .. }) => put_answer(page, b"answer\tundecided\n", tally),
+        Err(error) => put_refusal(page, error.into()),
     }
 }
 
-fn put_cycle(
-    page: &mut [u8],
-    at: usize,
-    text: &[u8],
-    places: &[u32],
-    stem: &[u16],
-    ring: &[u16],
-    tally: Tally,
-) -> usize
-    requires { Labels text.now places.now stem.now × Labels text.now places.now ring.now
-        × Holds page.old at (cycle_lines (label_at text.now places.now) stem.now ring.now tally) }
-    ensures { written result page.new
-        ≡ puts page.old at
-        (cycle_lines (label_at text.now places.now) stem.now ring.now tally) }
+#[tactic(auto, using(page::proofs::Written::laws), unfolding(crate::specs::Report::cycle_lines))]
+fn put_cycle(page: &mut Page<'_>, labels: &Labels<'_>, stem: &[u16], ring: &[u16], tally: Tally)
+    requires stem { ShowsAll labels.now stem.now }
+    requires ring { ShowsAll labels.now ring.now }
+    requires room { Holds page.old (cycle_lines (label_of labels.now) stem.now ring.now tally) }
+    ensures { Adds page.old page.new (cycle_lines (label_of labels.now) stem.now ring.now tally) }
 {
-    let a = put(page, at, b"answer\tcycle\n");
-    let b = put_states(page, a, b"stem\t", text, places, stem);
-    let c = put_states(page, b, b"loop\t", text, places, ring);
-    put_tally(page, c, tally)
+    page.put(b"answer\tcycle\n");
+    put_states(page, b"stem\t", labels, stem);
+    put_states(page, b"loop\t", labels, ring);
+    put_tally(page, tally);
 }
 
-fn put_answer(page: &mut [u8], at: usize, answer: &[u8], tally: Tally) -> usize
-    requires { Holds page.old at (answer.now ++ tally_line tally) }
-    ensures { written result page.new ≡ puts page.old at (answer.now ++ tally_line tally) }
+#[tactic(auto, using(page::proofs::Written::laws))]
+fn put_answer(page: &mut Page<'_>, answer: &[u8], tally: Tally)
+    requires { Holds page.old (answer.now ++ tally_line tally) }
+    ensures { Adds page.old page.new (answer.now ++ tally_line tally) }
 {
-    let end = put(page, at, answer);
-    put_tally(page, end, tally)
+    page.put(answer);
+    put_tally(page, tally);
 }
 
-#[tactic(auto, unfolding(crate::specs::Report::tally_line, page::specs::Words::bytes))]
-fn put_tally(page: &mut [u8], at: usize, tally: Tally) -> usize
-    requires { Holds page.old at (tally_line tally) }
-    ensures { written result page.new ≡ puts page.old at (tally_line tally) }
+#[tactic(auto, unfolding(crate::specs::Report::tally_line))]
+fn put_tally(page: &mut Page<'_>, tally: Tally)
+    requires { Holds page.old (tally_line tally) }
+    ensures { Adds page.old page.new (tally_line tally) }
 {
-    put_numbers(
-        page,
-        at,
+    page.put_numbers(
         b"tally",
         &[tally.outer, tally.inner, tally.waits, tally.moves],
-    )
+    );
 }
 
 // What `replay` adds to an answer: the turns used, and each of p workers; nothing to a refusal. The room is the form of a machine of n states.
-#[tactic(auto, using(page::proofs::Written::puts_none, refusals::proofs::Numbers::run_refusal))]
+#[tactic(auto, using(page::proofs::Written::laws))]
 pub fn put_end(
-    page: &mut [u8],
-    at: usize,
-    text: &[u8],
-    places: &[u32],
+    page: &mut Page<'_>,
+    labels: &Labels<'_>,
     room: &[u16],
     n: usize,
     p: usize,
-    outcome: Outcome,
-) -> usize
-    requires { ShowsEnd text.now places.now room.now n p (told outcome)
-        × Holds page.old at (end_lines (label_at text.now places.now) room.now n p (told outcome)) }
-    ensures { written result page.new
-        ≡ puts page.old at
-        (end_lines (label_at text.now places.now) room.now n p (told outcome)) }
-{
-    if of_run(outcome).number != 0 {
-        return at;
-    }
-    let end = put_numbers(page, at, b"used", &[used_of(outcome) as u64]);
-    put_workers(page, end, text, places, room, n, p)
-}
-
-// The turns used; 0 if the run was refused.
-fn used_of(outcome: Outcome) -> usize
-    ensures { result ≡ used_of (told outcome) }
+    outcome: Result<Outcome, RunError>,
+)
+    requires labels { ShowsEnd labels.now room.now n p (told outcome) }
+    requires room { Holds page.old (end_lines (label_of labels.now) room.now n p (told outcome)) }
+    ensures { Adds page.old page.new (end_lines (label_of labels.now) room.now n p (told outcome)) }
 {
     match outcome {
-        Outcome::Cycle {
-            stem: _,
-            loop_: _,
-            used,
-        } => used,
-        Outcome::None { used } => used,
-        Outcome::Undecided { used } => used,
-        _ => 0,
+        Ok(Outcome::Cycle { used, .. })
+        | Ok(Outcome::None { used })
+        | Ok(Outcome::Undecided { used }) => { put_used(page, labels, room, n, p, used) }
+        Err(_) => {}
     }
+}
+
+#[tactic(auto, using(page::proofs::Written::laws), unfolding(crate::specs::Report::used_lines))]
+fn put_used(page: &mut Page<'_>, labels: &Labels<'_>, room: &[u16], n: usize, p: usize, used: usize)
+    requires labels { ShowsWorkers labels.now room.now n p }
+    requires room { Holds page.old (used_lines (label_of labels.now) room.now n p used) }
+    ensures { Adds page.old page.new (used_lines (label_of labels.now) room.now n p used) }
+{
+    page.put_numbers(b"used", &[used as u64]);
+    put_workers(page, labels, room, n, p);
 }

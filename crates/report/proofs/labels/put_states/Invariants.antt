@@ -1,19 +1,9 @@
--- After i turns of its loop the lines of the first i states are written.
-use Rattle.std.proofs.Common.{◌≡◌, ℕ, ◌-◌, ◌≤◌, List, length, take}
-use Rattle.text.specs.Labels.{label_at}
-use Rattle.page.specs.Words.{joined}
-use Rattle.page.specs.Page.{written, puts}
-use Rattle.report.specs.Report.{state_line}
+-- The lines of the states before are written.
+use Rattle.std.proofs.Common.{take}
+use Rattle.page.specs.Page.{Adds}
+use Rattle.report.specs.Shows.{label_of}
+use Rattle.report.specs.Report.{state_lines}
 use Rattle.report.proofs.labels.put_states.Given as goal
 
-abbrev pub line : (word text places : List ℕ) → ℕ → List ℕ
-line word text places s = state_line word (label_at text places s)
-
-abbrev pub invariant-loop-i : goal.invariant-loop-i
-invariant-loop-i l = record {
-  counted : l.i ≤ length l.states;
-  wrote : written l.end l.page ≡ puts l.fn.page l.at (joined (line l.word l.text l.places) (take l.i l.states));
-}
-
-abbrev pub decreases-loop-i : goal.decreases-loop-i
-decreases-loop-i l = length l.states - l.i
+abbrev pub invariant-loop-s : goal.invariant-loop-s
+invariant-loop-s l = Adds l.initial.page l.page (state_lines l.word (label_of l.labels) (take l.s-index l.states))

@@ -1,21 +1,11 @@
--- `put_workers` writes a line for each worker.
+-- `put_workers` has room for the line of each worker.
 use Rattle.std.proofs.Common.{arith}
-use Rattle.report.proofs.Below.{below_holds, below_more}
-use Rattle.report.proofs.workers.put_workers.Invariants.{line}
+use Rattle.report.specs.Report.{own_at}
+use Rattle.report.specs.Shows.{label_of}
+use Rattle.report.proofs.Below.{workers_long}
 use Rattle.report.proofs.workers.put_workers.Goals as goal
 
-pub put_worker-end-requires : goal.put_worker-end-requires
-put_worker-end-requires c =
-    let line = line c.args.text.now c.args.places.now c.args.room.now c.args.n in
-    let q = c.loop-q.q in
+pub put_worker-requires-clause-room : goal.put_worker-requires-clause-room
+put_worker-requires-clause-room c =
     rw c.own_in.ensures
-    (c.requires.0.seeds q c.loop-q-test.true, below_holds line c.args.p c.requires.1 q c.loop-q-test.true c.loop-q.invariant.wrote)
-
-pub loop-q-preserved : goal.loop-q-preserved
-loop-q-preserved c =
-    let line = line c.args.text.now c.args.places.now c.args.room.now c.args.n in
-    let wrote = rw c.own_in.ensures at c.put_worker-end.ensures in
-    record {
-      counted = omega (arith, c.loop-q-test.true);
-      wrote = below_more line c.args.p c.requires.1 c.loop-q.q c.loop-q-test.true c.loop-q.invariant.wrote wrote;
-    }
+    (omega (arith, workers_long (label_of c.args.labels.now) (own_at c.args.room.now c.args.n) c.loop-q.q c.args.p c.loop-q-test.true))
