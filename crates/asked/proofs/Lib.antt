@@ -1,7 +1,5 @@
--- Laws of words: of digits, of their number, and of words spelt out; what some words ask for, and where its turns stand; and that the contract of `ask`
--- settles the call.
+-- Laws of words of digits and of `==`; what some words ask for, and where its turns stand; and that the contract of `ask` settles the call.
 pub mod Numbers
-pub mod Counted
 pub mod Spelt
 pub mod Cases
 pub mod Within

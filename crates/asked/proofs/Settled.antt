@@ -2,11 +2,12 @@
 use Prim.Native.Nat.{ℕ}
 use mathlib.Core.Path.{◌≡◌, ap}
 use mathlib.Core.List.{List}
+use Rattle.std.specs.Prelude.{Option}
 use Rattle.graphs.proofs.Settled.{settled}
 use Rattle.asked.specs.declared.Asked.{Asked}
 use Rattle.asked.specs.Asked.{Call, called, asks}
 
-pub ask_settled : (workers turns : List ℕ) (r r' : Asked) (after after' : List ℕ)
+pub ask_settled : (workers turns : List ℕ) (r r' : Option Asked) (after after' : List ℕ)
     → called r after ≡ asks workers turns → called r' after' ≡ asks workers turns → (r ≡ r') × (after ≡ after')
 ask_settled workers turns r r' after after' p q =
     let same = settled p q in

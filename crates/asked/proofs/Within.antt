@@ -5,15 +5,14 @@ use mathlib.Core.Bool.{not}
 use mathlib.Core.List.{List}
 use lib.ListN.{length, length-map}
 use native.Mathlib.Omega.{arith}
+use Rattle.std.specs.Prelude.{Option, IfSome}
 use Rattle.graphs.proofs.Tests.{cond_ind}
 use Rattle.asked.specs.declared.Asked.{Asked}
-use Rattle.asked.specs.declared.Asked.TheVariants.{Run, Usage}
 use Rattle.asked.specs.Digits.{digit_of, is_number}
 use Rattle.asked.specs.Asked.{Call, called, is_end, is_dash, asks}
 
-abbrev Within : Asked → List ℕ → Type 0
-Within (Run workers ending turns) after = turns ≤ length after
-Within Usage after = Unit {0}
+abbrev pub Within : Option Asked → List ℕ → Type 0
+Within r after = IfSome r (λ a. IfSome a.turns (λ turns. turns ≤ length after))
 
 abbrev Fits : Call → Type 0
 Fits c = Within c.asked c.turns
@@ -22,9 +21,9 @@ all_within : (workers turns : List ℕ) → Fits (asks workers turns)
 unfolding asks
 all_within workers turns =
     cond_ind Fits (not (is_number workers)) (λ e. tt) (λ e.
-    cond_ind Fits (is_end turns) (λ e. omega arith) (λ e.
+    cond_ind Fits (is_end turns) (λ e. tt) (λ e.
     cond_ind Fits (is_dash turns) (λ e. omega arith) (λ e.
     cond_ind Fits (not (is_number turns)) (λ e. tt) (λ e. let long = length-map turns digit_of in omega (arith, long)))))
 
-pub turns_within : (workers turns after : List ℕ) (r : Asked) → called r after ≡ asks workers turns → Within r after
+pub turns_within : (workers turns after : List ℕ) (r : Option Asked) → called r after ≡ asks workers turns → Within r after
 turns_within workers turns after r e = subst Fits (sym e) (all_within workers turns)

@@ -1,5 +1,5 @@
 -- Words of digits, as bytes.
-use Rattle.std.specs.Prelude.{ℕ, ◌+◌, ◌-◌, ◌*◌, min, ◌≡◌, Bool, true, false, cond, ◌&&◌, List, [], ◌∷◌, leb, ltb}
+use Rattle.std.specs.Prelude.{ℕ, ◌+◌, ◌-◌, ◌*◌, min, Bool, false, cond, ◌&&◌, List, [], ◌∷◌, leb, ltb}
 use Rattle.graphs.specs.Lists.{all}
 
 -- `0` is 48, `9` is 57
@@ -13,9 +13,6 @@ digit_of b = b - 48
 unfoldable pub is_number : List ℕ → Bool
 is_number [] = false
 is_number (b ∷ word) = all is_digit (b ∷ word)
-
-abbrev pub Number : List ℕ → Type 0
-Number word = all is_digit word ≡ true
 
 -- the number whose decimal digits follow those of n
 unfoldable pub value_from : ℕ → List ℕ → ℕ

@@ -1,60 +1,29 @@
 // Words of digits: whether a word is one, its number, and its digits as numbers.
-ghost use Rattle.std.specs.Prelude.{◌≡◌, true, map};
-ghost use Rattle.asked.specs.Digits.{Number, is_digit, is_number, digit_of, count_of, with_digit};
+ghost use Rattle.std.specs.Prelude.{◌≡◌, map, IsTrue};
+ghost use Rattle.asked.specs.Digits.{is_number, digit_of, count_of};
 
-#[tactic(auto, unfolding(graphs::specs::Lists::all))]
+#[tactic(auto, unfolding(crate::specs::Digits::is_number))]
 pub fn is_number(word: &[u8]) -> bool
     ensures { result ≡ is_number word.now }
 {
-    let mut i = 0;
-    while i < word.len() {
-        if !is_digit(word[i]) {
-            return false;
-        }
-        i += 1;
-    }
-    0 < i
-}
-
-#[tactic(auto, unfolding(crate::specs::Digits::is_digit))]
-fn is_digit(b: u8) -> bool
-    ensures { result ≡ is_digit b }
-{
-    b'0' <= b && b <= b'9'
+    !word.is_empty() && word.iter().all(u8::is_ascii_digit)
 }
 
 // 9 stands for every number above 8.
-#[tactic(auto, unfolding(crate::specs::Digits::count_of, crate::specs::Digits::value_from))]
 pub fn count_of(word: &[u8]) -> usize
-    requires { Number word.now }
+    requires { IsTrue (is_number word.now) }
     ensures { result ≡ count_of word.now }
 {
-    let mut n = 0;
-    let mut i = 0;
-    while i < word.len() {
-        n = with_digit(n, word[i]);
-        i += 1;
-    }
-    n
+    word.iter()
+        .fold(0, |n, b| if n > 0 { 9 } else { usize::from(b - b'0') })
 }
 
-fn with_digit(n: usize, b: u8) -> usize
-    requires { is_digit b ≡ true }
-    ensures { result ≡ with_digit n b }
-{
-    if 0 < n {
-        return 9;
-    }
-    (b - b'0') as usize
-}
-
+#[tactic(auto, using(crate::proofs::Numbers::digits_low, crate::proofs::Numbers::all_off))]
 pub fn digits_off(word: &mut [u8])
-    requires { Number word.old }
+    requires { IsTrue (is_number word.old) }
     ensures { word.new ≡ map digit_of word.old }
 {
-    let mut i = 0;
-    while i < word.len() {
+    for i in 0..word.len() {
         word[i] -= b'0';
-        i += 1;
     }
 }

@@ -1,31 +1,25 @@
 // Reading all of a program's input, so that a reading that fails is not taken for the end of the text.
 #![tactic(auto)]
 
-ghost use Rattle.input.specs.Got.{Got};
+ghost use Rattle.std.specs.Prelude.{◌<◌, length, take, IfOk};
+ghost use Rattle.std.specs.Io.{ReadsAtMost};
+ghost use Rattle.std.specs.Io.KnownBytes.{Consumes, IsAtEnd};
 
-use std::io::{Error, Read};
-
-#[derive(Drop)]
-pub enum Input {
-    Bytes(usize),
-    Failed(Error),
-}
+use std::io::{self, Read};
 
 // Reads until the buffer is full or the input ends, and answers how many bytes stand at the front of the buffer; or why a read failed.
-pub fn all<R: Read>(reader: &mut R, buffer: &mut [u8]) -> Input
-    ensures { Got result buffer.new }
+pub fn all<R: Read>(reader: &mut R, buffer: &mut [u8]) -> io::Result<usize>
+    ensures got { ReadsAtMost result buffer.new }
+    ensures bytes { IfOk result (λ n. Consumes (R.remaining reader.old) (R.remaining reader.new) (take n buffer.new)) }
+    ensures end { IfOk result (λ n. n < length buffer.new → IsAtEnd (R.remaining reader.new)) }
 {
     let mut n = 0;
     while n < buffer.len() {
-        let got = reader.read(&mut buffer[n..]);
-        let k = match got {
-            Ok(k) => k,
-            Err(e) => return Input::Failed(e),
-        };
+        let k = reader.read(&mut buffer[n..])?;
         if k == 0 {
-            return Input::Bytes(n);
+            return Ok(n);
         }
         n += k;
     }
-    Input::Bytes(n)
+    Ok(n)
 }

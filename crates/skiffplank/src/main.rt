@@ -2,15 +2,12 @@
 #![tactic(auto)]
 
 use anyhow::{Result, anyhow};
-use input::Input;
 use programs::search_page;
 
 fn main(rt: HostRuntime) -> Result<()> {
     let mut text = [0u8; 32769];
-    let n = match input::all(&mut rt.stdin(), &mut text) {
-        Input::Bytes(n) => n,
-        Input::Failed(e) => return Err(anyhow!("skiffplank: standard input: {e}")),
-    };
+    let n = input::all(&mut rt.stdin(), &mut text)
+        .map_err(|e| anyhow!("skiffplank: standard input: {e}"))?;
     let mut page = [0u8; 16384];
     let k = search_page(&mut page, &text[..n]);
     rt.write_all(&page[..k])

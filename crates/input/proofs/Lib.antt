@@ -1,0 +1,2 @@
+-- What one read adds to the bytes before it.
+pub mod Steps

@@ -1,2 +1,0 @@
--- What came of reading all of an input.
-pub mod Got
