@@ -5,7 +5,7 @@ use mathlib.Core.Bool.{not}
 use mathlib.Core.List.{List}
 use lib.ListN.{length, length-map}
 use native.Mathlib.Omega.{arith}
-use Rattle.std.specs.Prelude.{Option, IfSome}
+use Rattle.std.specs.Prelude.{Option, Some, None, IfSome}
 use Rattle.graphs.proofs.Tests.{cond_ind}
 use Rattle.asked.specs.declared.Asked.{Asked}
 use Rattle.asked.specs.Digits.{digit_of, is_number}
@@ -27,3 +27,12 @@ all_within workers turns =
 
 pub turns_within : (workers turns after : List ℕ) (r : Option Asked) → called r after ≡ asks workers turns → Within r after
 turns_within workers turns after r e = subst Fits (sym e) (all_within workers turns)
+
+-- the word may stand at the front of a longer one
+longer_front : (turns : Option ℕ) (n m : ℕ) → IfSome turns (λ k. k ≤ n) → n ≤ m → IfSome turns (λ k. k ≤ m)
+longer_front None n m h long = tt
+longer_front (Some k) n m h long = omega (arith, h, long)
+
+pub within_longer : (r : Option Asked) (after longer : List ℕ) → Within r after → length after ≤ length longer → Within r longer
+within_longer None after longer h long = tt
+within_longer (Some asked) after longer h long = longer_front asked.turns (length after) (length longer) h long

@@ -1,7 +1,0 @@
--- `word_room` has 131,072 bytes: its length is known without counting them.
-use Rattle.std.proofs.Common.{ℕ, sym}
-use Rattle.std.proofs.lemmas.List.{length-replicate}
-use Rattle.replay.proofs.word_room.Goals as goal
-
-pub returns : goal.returns
-returns c = sym (length-replicate {0} {A = ℕ} 131072 0)
