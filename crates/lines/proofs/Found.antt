@@ -1,19 +1,14 @@
 -- What is found at a place of a text, by the tests of `state_line` and `transition_line`: a line that the page says is a state or a transition
 -- passes them all, and bytes that pass them all are such a line.
-use Prim.Native.Nat.{ℕ, suc, ◌+◌, ◌<◌}
+use Prim.Native.Nat.{ℕ, suc, ◌+◌}
 use mathlib.Core.Path.{◌≡◌, refl, sym, ap, ◌∙◌}
-use mathlib.Core.Bool.{Bool, true, false, cond, ◌&&◌, ◌||◌}
+use mathlib.Core.Bool.{Bool, true, cond, ◌&&◌}
 use mathlib.Core.List.{List, [], ◌∷◌, ◌++◌}
 use mathlib.Core.Logic.{◌⊎◌, inl, inr, ◌≢◌}
-use lib.Dec.{eqb}
-use lib.ListN.{length, get_or, drop}
-use lib.Seq.{drop-drop, get_or-drop, get_or-append_seam}
-use native.Mathlib.Nat.{add-zero}
-use native.Mathlib.Numerals.{add-one}
+use lib.ListN.{length, drop}
 use native.Mathlib.Omega.{arith}
-use borrow.Author.Tests.{eq-eqb, eqb-true}
 use Rattle.graphs.specs.Lists.{elem, same}
-use Rattle.graphs.proofs.Tests.{and_cases, or_cases, or_inl, or_inr, not_both, clash}
+use Rattle.graphs.proofs.Tests.{and_cases, or_cases, not_both}
 use Rattle.graphs.proofs.Same.{same_eq}
 use Rattle.lines.specs.Line.{field, is_label, accepting, plain, is_state, is_transition, flag_of}
 use Rattle.lines.specs.Found.{label_of, first_line, ended, state_found, transition_found}

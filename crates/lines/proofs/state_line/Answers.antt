@@ -22,10 +22,10 @@ returns-else-starts_with-2 c =
 
 pub returns : goal.returns
 returns c = elim c.if-starts_with.branch [
-    then-starts_with w ↦
-        let accepting = starts_is Decides-eqb c.in_ok-label.left.now (9 ∷ 97 ∷ 10 ∷ []) _ c.starts_with.ensures.value in
-        rw w.flag-is (state_accepting c.args.at c.in_ok-front.ensures c.in_ok-label.ensures.begins _ (accepting.0 w.if-starts_with.true))
-    | else-starts_with+then-starts_with-2 w ↦
-        let plain = starts_is Decides-eqb c.in_ok-label.left.now (9 ∷ 45 ∷ 10 ∷ []) _ w.starts_with-else-starts_with.ensures.value in
-        rw w.flag-is (state_plain c.args.at c.in_ok-front.ensures c.in_ok-label.ensures.begins _ (plain.0 w.if-starts_with-2.true))
-    ]
+  | then-starts_with w ↦
+      let accepting = starts_is Decides-eqb c.in_ok-label.left.now (9 ∷ 97 ∷ 10 ∷ []) _ c.starts_with.ensures.value in
+      rw w.flag-is (state_accepting c.args.at c.in_ok-front.ensures c.in_ok-label.ensures.begins _ (accepting.0 w.if-starts_with.true))
+  | else-starts_with+then-starts_with-2 w ↦
+      let plain = starts_is Decides-eqb c.in_ok-label.left.now (9 ∷ 45 ∷ 10 ∷ []) _ w.starts_with-else-starts_with.ensures.value in
+      rw w.flag-is (state_plain c.args.at c.in_ok-front.ensures c.in_ok-label.ensures.begins _ (plain.0 w.if-starts_with-2.true))
+]

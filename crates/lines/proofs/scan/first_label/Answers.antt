@@ -1,7 +1,5 @@
 -- `first_label` meets its contract: a label is one part of less than eight bytes, or eight bytes and a second part.
-use Prim.Native.Nat.{◌≤◌}
 use native.Mathlib.Omega.{arith}
-use lib.ListN.{drop}
 use Rattle.lines.specs.Scan.{part_of}
 use Rattle.lines.proofs.Labels.{here_none, label_of_one, label_of_two, to_end, begins}
 use Rattle.lines.proofs.scan.first_label.Goals as goal

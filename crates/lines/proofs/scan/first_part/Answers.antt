@@ -1,8 +1,7 @@
 -- `first_part` meets its contract. The bytes so far are a label's, and `word` is their word.
-use Prim.Native.Nat.{◌<◌}
-use mathlib.Core.Path.{sym, ap, ◌∙◌}
+use mathlib.Core.Path.{sym, ◌∙◌}
 use native.Mathlib.Omega.{arith}
-use Rattle.lines.specs.Bytes.{of_label, in_label}
+use Rattle.lines.specs.Bytes.{in_label}
 use Rattle.lines.proofs.Part.{taken_none, taken_fits, taken_more, taken_all}
 use Rattle.lines.proofs.Run.{few_at, few_end, run_stop}
 use Rattle.lines.proofs.scan.first_part.Goals as goal
