@@ -2,18 +2,19 @@
 -- the laws for a tactic that meets a function's stores, `reads` what stands at one word.
 use Prim.Native.Nat.{ℕ, suc, ◌+◌, ◌-◌, ◌<◌, ◌≤◌}
 use mathlib.Core.Path.{◌≡◌, refl, sym, ap, ◌∙◌}
-use mathlib.Core.Bool.{Bool, true, false}
-use mathlib.Core.List.{List, [], ◌∷◌}
+use mathlib.Core.Bool.{Bool, true, false, ◌||◌}
+use mathlib.Core.List.{List, [], ◌∷◌, reverse}
+use lib.Bits.{bit_or}
 use lib.Dec.{eqb}
-use lib.ListN.{length, get_or, set, replicate, length-set}
+use lib.ListN.{length, get_or, set, replicate, length-set, length-append, length-reverse}
 use native.Mathlib.Omega.{arith}
 use native.Mathlib.Numerals.{add-one}
 use borrow.Author.Tests.{ne_eqb}
 use Rattle.graphs.specs.Lists.{upd}
-use Rattle.graphs.proofs.Tab.{tab_long, tab_word, tab_upd}
+use Rattle.graphs.proofs.Tab.{tab_long, tab_word, tab_is, tab_upd}
 use Rattle.moves.specs.Machine.{empty}
 use Rattle.moves.specs.Changes.{is_empty, only}
-use Rattle.moves.specs.Room.{bit}
+use Rattle.moves.specs.Room.{bit, pile}
 use Rattle.moves.specs.Words.{IsSet, IsStack, IsCounts}
 use Rattle.moves.proofs.Bits.{bits_long, bits_upd, bits_empty, bits_only}
 use Rattle.moves.proofs.Pile.{pile_push, pile_pop}
@@ -45,6 +46,23 @@ module _ {n : ℕ} {f : ℕ → Bool} {l : List ℕ} (e : IsSet n f l) where
   pub set_test : (s : ℕ) → s < length l → eqb (get_or l s 0) 1 ≡ f s
   set_test s h = rw (set_word s h) (bit_test (f s))
 
+or_bits : (a b : Bool) → bit_or (bit a) (bit b) ≡ bit (a || b)
+or_bits true true = refl
+or_bits true false = refl
+or_bits false true = refl
+or_bits false false = refl
+
+-- the words of two sets, joined one by one
+pub dyed_words : {n : ℕ} {f r : ℕ → Bool} {held old new : List ℕ} → IsSet n f held → IsSet n r old → length new ≡ length old
+    → ((s : ℕ) → s < length old → get_or new s 0 ≡ bit_or (get_or old s 0) (get_or held s 0)) → IsSet n (λ x. r x || f x) new
+dyed_words {n} {f} {r} {new = new} h e long each =
+    let size = set_long e in
+    record {
+      words =
+          sym (tab_is n 0 (λ x. bit (r x || f x)) new (long ∙ size)
+          (λ s k. sym (each s (omega arith) ∙ rw (set_word e s (omega arith), set_word h s (omega (arith, set_long h)), or_bits (r s) (f s)))));
+    }
+
 module _ {n : ℕ} {u l : List ℕ} {d : ℕ} (e : IsStack n u l d) where
   pub push : (x : ℕ) → d < length l → IsStack n (x ∷ u) (set l d x) (d + 1)
   push x h =
@@ -59,6 +77,12 @@ module _ {n : ℕ} {u l : List ℕ} {d : ℕ} (e : IsStack n u l d) where
   first_on x none h =
       let room : 0 < n = omega (arith, e.long) in
       record { long = length-set l 0 x ∙ e.long; words = rw (e.words, none) (sym (pile_push n [] x room)); depth = refl }
+
+  pub stack_fits : d ≤ length l
+  unfolding pile
+  stack_fits =
+      let long = ap length e.words ∙ length-append (reverse u) (replicate (n - length u) 0) in
+      omega (arith, e.long, e.depth, long, length-reverse u)
 
   -- the depth tells whether the stack is empty
   pub none_left : eqb d 0 ≡ is_empty u
@@ -80,6 +104,9 @@ module _ {n s : ℕ} {u l : List ℕ} {d : ℕ} (e : IsStack n (s ∷ u) l d) wh
   pub top_word : get_or l (d - 1) 0 ≡ s
   top_word = rw (deep, e.words) (pile_top n s u)
 
+  pub stack_some : 0 < d
+  stack_some = omega (arith, e.depth)
+
 module _ {n : ℕ} {t : ℕ → ℕ} {l : List ℕ} (e : IsCounts n t l) where
   pub counts_long : length l ≡ n
   counts_long = ap length e.words ∙ tab_long 0 n t
@@ -94,3 +121,5 @@ module _ {n : ℕ} {t : ℕ → ℕ} {l : List ℕ} (e : IsCounts n t l) where
   count_more s h = rw (count_word s h, add-one) (count s (suc (t s)) h)
 
 pub ruleset stores = (on, off, only_on, cleared, push, first_on, popped, count, count_more)
+
+pub ruleset reads = (set_test, top_word, stack_some, stack_fits)

@@ -1,8 +1,8 @@
--- The laws behind a turn, in the order in which they build on each other: the part that is lent, what is known where a turn is made, the choice,
--- what making the move writes, the turn, and that its contract settles the call.
-pub mod Lent
+-- The laws behind a turn, in the order in which they build on each other: what is read of a row, the waiting test, and that the contract of a turn
+-- settles the call.
+pub mod Next
+pub mod Others
+pub mod Rules
 pub mod Given
-pub mod Chosen
-pub mod Making
-pub mod Turned
+pub mod Cut
 pub mod Settled

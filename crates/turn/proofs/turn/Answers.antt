@@ -1,38 +1,50 @@
--- `turn` meets its contract: by Turned, whatever machine the room is the form of; the one that is asked for keeps the arithmetic in bounds.
+-- `turn` meets its contract: what is cut out of the room is the machine's, whatever machine it is; the one that is asked for keeps the cuts in bounds.
 use borrow.Author.Rules.{rules}
-use Rattle.turn.proofs.Given.{given, few, inside}
-use Rattle.turn.proofs.Turned.{ready_own, fit_own, turned}
+use Rattle.moves.proofs.Stretch.{others_stay}
+use Rattle.turn.proofs.Given.{Given, given, few, seen, inside}
+use Rattle.turn.proofs.Cut.{room_cut, cut_lent, room_joined}
 use Rattle.turn.proofs.turn.Goals as goal
 
-pub overflow_mul-a-2 : goal.overflow_mul-a-2
-overflow_mul-a-2 c = let low = few (given c.requires) in search rules
+pub overflow_mul-size : goal.overflow_mul-size
+overflow_mul-size c = let low = few (given c.requires) in search rules
 
-pub overflow_add-a : goal.overflow_add-a
-overflow_add-a c = let low = few (given c.requires) in search rules
+pub overflow_add-size : goal.overflow_add-size
+overflow_add-size c = let low = few (given c.requires) in search rules
 
-pub overflow_mul-a-3 : goal.overflow_mul-a-3
-overflow_mul-a-3 c = let in_room = inside (given c.requires) in search rules
+pub split_at_mut-blue-requires : goal.split_at_mut-blue-requires
+split_at_mut-blue-requires c = let room = inside (given c.requires) in search rules
 
-pub overflow_add-a-2 : goal.overflow_add-a-2
-overflow_add-a-2 c = let in_room = inside (given c.requires) in search rules
+pub split_at_mut-red-requires : goal.split_at_mut-red-requires
+split_at_mut-red-requires c = let room = inside (given c.requires) in search rules
 
-pub overflow_mul-n : goal.overflow_mul-n
-overflow_mul-n c = let low = few (given c.requires) in search rules
+pub overflow_mul-p : goal.overflow_mul-p
+overflow_mul-p c = let room = inside (given c.requires) in search rules
 
-pub overflow_add-a-3 : goal.overflow_add-a-3
-overflow_add-a-3 c = let in_room = inside (given c.requires) in search rules
+pub split_at_mut-later-requires : goal.split_at_mut-later-requires
+split_at_mut-later-requires c = let room = inside (given c.requires) in search rules
 
-pub own_in-own-requires : goal.own_in-own-requires
-own_in-own-requires c = let in_room = inside (given c.requires) in search rules
+pub split_at_mut-own-requires : goal.split_at_mut-own-requires
+split_at_mut-own-requires c = let room = inside (given c.requires) in search rules
 
-pub choose-made-requires : goal.choose-made-requires
-choose-made-requires c = ready_own (given c.requires) c.own_in-own.result c.own_in-own.ensures
-
-pub make-requires : goal.make-requires
-make-requires c = fit_own (given c.requires) c.own_in-own.result c.own_in-own.ensures c.choose-made.result c.choose-made.ensures
+pub turn_in-requires-clause-given : goal.turn_in-requires-clause-given
+turn_in-requires-clause-given c =
+    let x = given c.requires in
+    let cut = room_cut _ _ c.args.p _ _ c.states-n.ensures x.named (seen x).fits x.formed.form c.split_at_mut-blue.ensures.value c.split_at_mut-blue.ensures.front_len
+    c.split_at_mut-red.ensures.value c.split_at_mut-red.ensures.front_len
+    c.split_at_mut-later.ensures.value c.split_at_mut-later.ensures.front_len
+    c.split_at_mut-own.ensures.value c.split_at_mut-own.ensures.front_len in
+    record { workers = c.requires.workers; machine = c.requires.machine; given = cut_lent x.named x.formed.inv cut }
 
 pub returns : goal.returns
 returns c =
     λ P m rest named formed.
-    turned (record { is = c.requires.graph; named = named; formed = formed }) c.own_in-own.result c.own_in-own.ensures
-    c.choose-made.result c.choose-made.ensures _ c.make.ensures
+    let x : Given c.args.graph.now.offsets.now c.args.graph.now.targets.now c.args.graph.now.flags.now P c.args.p m rest c.args.room.now = record { is = c.requires.graph; named = named; formed = formed } in
+    let cut = room_cut _ _ c.args.p _ _ c.states-n.ensures named (seen x).fits formed.form c.split_at_mut-blue.ensures.value c.split_at_mut-blue.ensures.front_len
+    c.split_at_mut-red.ensures.value c.split_at_mut-red.ensures.front_len
+    c.split_at_mut-later.ensures.value c.split_at_mut-later.ensures.front_len
+    c.split_at_mut-own.ensures.value c.split_at_mut-own.ensures.front_len in
+    let t = c.turn_in.ensures P m (cut_lent named formed.inv cut) in
+    record {
+      move = t.move;
+      room' = room_joined cut named _ (others_stay _ c.args.p m) t.lent.blue_is t.lent.red_is t.lent.own.words;
+    }
