@@ -27,27 +27,24 @@ copied_twice : (front next lasso : List ℕ) (x y : ℕ) → length front ≡ x
 copied_twice front next lasso x y e =
     rw (take_at front (drop x lasso) x e, drop_at front (drop x lasso) x e, add-sub_cancel_left x y, drop-drop y x lasso)
 
-module _ {n p w : ℕ} {l lasso : List ℕ} (same : w ≡ p) (stacked : Stacked n (stretch_at n p) l lasso) where
-  pub stacked_inside : stretch_at n w + stretch n ≤ length l
-  stacked_inside = rw same stacked.inside
-
-  module _ {outer inner : ℕ} (o : outer ≡ outer_depth n (stretch_at n w) l) (i : inner ≡ inner_depth n (stretch_at n w) l) where
-    pub stacked_bounds : Bounds n w outer inner l lasso
+module _ {n : ℕ} (p : ℕ) {l lasso : List ℕ} (stacked : Stacked n (stretch_at n p) l lasso) where
+  module _ {outer inner : ℕ} (o : outer ≡ outer_depth n (stretch_at n p) l) (i : inner ≡ inner_depth n (stretch_at n p) l) where
+    pub stacked_bounds : Bounds n p outer inner l lasso
     stacked_bounds =
         record {
           few = stacked.few;
-          inside = stacked_inside;
-          outer_fits = rw (o, same) stacked.outer_fits;
-          inner_fits = rw (i, same) stacked.inner_fits;
-          seeded = rw (i, same) stacked.seeded;
+          inside = stacked.inside;
+          outer_fits = rw o stacked.outer_fits;
+          inner_fits = rw i stacked.inner_fits;
+          seeded = rw i stacked.seeded;
           lasso_fits = stacked.lasso_fits;
         }
 
     abbrev outer_at : ℕ
-    outer_at = stretch_at n w + 2 * n
+    outer_at = stretch_at n p + 2 * n
 
     abbrev inner_at : ℕ
-    inner_at = stretch_at n w + 3 * n + 1
+    inner_at = stretch_at n p + 3 * n + 1
 
     abbrev outer_part : List ℕ
     outer_part = take (outer_at + outer - outer_at) (drop outer_at l)
@@ -56,16 +53,19 @@ module _ {n p w : ℕ} {l lasso : List ℕ} (same : w ≡ p) (stacked : Stacked 
     inner_part = take (inner_at + (inner - 1) - inner_at) (drop inner_at l)
 
     outer_long : length outer_part ≡ outer
-    outer_long = let bounds = stacked_bounds in simp (length-take, length-drop) (omega arith)
+    outer_long = let bounds = stacked_bounds in simp (length-take, length-drop) (omega (arith, bounds.inside, bounds.outer_fits))
 
     pub stacked_stem : (x : ℕ) {stem : ℕ} → stem ≡ place_down (length outer_part) x outer_part → stem ≤ outer
     stacked_stem x s = rw outer_long at (place_in x outer_part s)
 
-    pub stacked_shows : (x used : ℕ) {stem : ℕ} {front next : List ℕ}
-        → front ≡ outer_part → next ≡ inner_part → stem ≡ place_down (length outer_part) x outer_part
-        → (put_mid outer (outer + (inner - 1) - outer) (front ++ drop outer lasso) next ≡ lasso_in n (stretch_at n p) l lasso)
-        × (Cycle stem (outer + (inner - 1) - stem) used ≡ found_in n (stretch_at n p) x used l)
-    unfolding lasso_in found_in
-    stacked_shows x used f g s =
+    pub stacked_lasso : {front next : List ℕ} → front ≡ outer_part → next ≡ inner_part
+        → put_mid outer (outer + (inner - 1) - outer) (front ++ drop outer lasso) next ≡ lasso_in n (stretch_at n p) l lasso
+    unfolding lasso_in
+    stacked_lasso f g =
         let copied = copied_twice outer_part inner_part lasso outer (inner - 1) outer_long in
-        rw (← same, ← o, ← i, f, g, s, copied, add-sub_cancel_left outer_at outer, add-sub_cancel_left inner_at (inner - 1)) (refl, refl)
+        rw (← o, ← i, f, g, copied, add-sub_cancel_left outer_at outer, add-sub_cancel_left inner_at (inner - 1)) refl
+
+    pub stacked_found : (x used : ℕ) {stem : ℕ} → stem ≡ place_down (length outer_part) x outer_part
+        → Cycle stem (outer + (inner - 1) - stem) used ≡ found_in n (stretch_at n p) x used l
+    unfolding found_in
+    stacked_found x used s = rw (← o, ← i, s, add-sub_cancel_left outer_at outer) refl

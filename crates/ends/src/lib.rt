@@ -43,7 +43,7 @@ pub fn show(room: &[u16], lasso: &mut [u16], n: usize, p: usize, x: u16, used: u
     }
 }
 
-// The place of x, looking down from the last word.
+// The place of x, looking down from the last word; 0 if it is not there.
 fn place_down(words: &[u16], x: u16) -> usize
     ensures { result ≡ place_down (length words.now) x words.now }
 {

@@ -1,0 +1,16 @@
+-- `show` meets its contract: the stem is no longer than the outer stack, and two copies put one part after the other.
+use Rattle.std.proofs.Common.{arith}
+use Rattle.ends.proofs.Stacked.{stacked_stem, stacked_lasso, stacked_found}
+use Rattle.ends.proofs.show.Goals as goal
+
+pub overflow_sub-result : goal.overflow_sub-result
+overflow_sub-result c =
+    let low = stacked_stem c.args.p c.requires c.from-outer.ensures c.from-inner.ensures _ c.place_down-stem.ensures in
+    omega (arith, low)
+
+pub returns-clause-lasso : goal.returns-clause-lasso
+returns-clause-lasso c =
+    stacked_lasso c.args.p c.requires c.from-outer.ensures c.from-inner.ensures c.copy_from_slice.ensures.after c.copy_from_slice-2.ensures.after
+
+pub returns-clause-found : goal.returns-clause-found
+returns-clause-found c = stacked_found c.args.p c.requires c.from-outer.ensures c.from-inner.ensures _ _ c.place_down-stem.ensures
