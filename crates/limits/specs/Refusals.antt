@@ -1,5 +1,5 @@
 -- 01 "Numbers refused", 9 to 13: which one a run's arguments get, if any. The lent rooms count by their lengths.
-use Rattle.std.specs.Prelude.{ℕ, ◌*◌, ◌≡◌, Bool, cond, not, ◌&&◌, List, leb, ltb, eqb, length}
+use Rattle.std.specs.Prelude.{ℕ, ◌*◌, ◌<◌, ◌^◌, ◌≡◌, Bool, cond, not, ◌&&◌, List, leb, ltb, eqb, length}
 use Rattle.graphs.specs.Lists.{all}
 use Rattle.graphs.specs.Words.{is_graph}
 use Rattle.graphs.specs.declared.graph.Graph.{Graph}
@@ -46,6 +46,7 @@ pub record Passed (g : Graph) (room lasso : ℕ) (turns offsets targets flags : 
   pub offsets_same : g.offsets.now ≡ offsets
   pub targets_same : g.targets.now ≡ targets
   pub flags_same : g.flags.now ≡ flags
+  pub few_turns : length turns < 2 ^ 64
   pub not_refused : refusal_of room lasso turns offsets targets flags P ≡ 0
 
 -- 01: "The run to the end takes worker count 0 too: it means the house's usual, two"

@@ -8,6 +8,7 @@ use mathlib.Core.Logic.{◌⊎◌, inl, inr, ◌≢◌}
 use lib.ListN.{length, drop, take, length-append}
 use lib.Seq.{take_at, drop_at}
 use native.Mathlib.Omega.{arith}
+use Rattle.std.specs.Prelude.{Result as Result·std}
 use Rattle.graphs.specs.Lists.{Mem}
 use Rattle.graphs.specs.Graph.{Graph, graph, Sound}
 use Rattle.graphs.specs.Lasso.{Lasso, MarkedLoop}
@@ -31,6 +32,7 @@ use Rattle.moves.specs.Own.{own_of, own_in}
 use Rattle.moves.proofs.Owned.{own_seen}
 use Rattle.limits.specs.Refusals.{most_workers, refusal_of, usual}
 use Rattle.limits.proofs.Refused.{fine}
+use Rattle.limits.specs.declared.RunError.{RunError}
 use Rattle.ends.specs.declared.Outcome.{Outcome}
 use Rattle.ends.specs.Told.{Told, told_cycle, told_none, told_undecided, told_refusal, told, tells_of, shown}
 use Rattle.search.specs.Outcomes.{lent, left, unless, outcome, outcome_to_end}
@@ -53,14 +55,14 @@ word_number (told_refusal number line) = 3
 -- A call that was refused with the number, if it is not 0, and else ran over the turns. `run_is_call` and `end_is_call` say that the two functions' calls
 -- are such: the run to the end is the run over its rounds.
 pub record Call (offsets targets flags turns : List ℕ) (P number : ℕ) (l lasso : List ℕ) (t : Tally)
-    (r : Outcome) (l' lasso' : List ℕ) (t' : Tally) : Type 0 where
+    (r : Result·std Outcome RunError) (l' lasso' : List ℕ) (t' : Tally) : Type 0 where
   pub graph : number ≡ 0 → is_graph offsets targets flags ≡ true
   pub some : number ≡ 0 → 0 < P
   pub few : number ≡ 0 → P ≤ most_workers
   pub named : number ≡ 0 → Named P turns
   pub leaves : lent r l' lasso' t' ≡ unless number (left (length flags) P (run (graph_of offsets targets flags) P turns) l lasso) l lasso t
 
-pub run_is_call : (turns offsets targets flags : List ℕ) (P : ℕ) (l lasso : List ℕ) (t : Tally) (r : Outcome) (l' lasso' : List ℕ) (t' : Tally)
+pub run_is_call : (turns offsets targets flags : List ℕ) (P : ℕ) (l lasso : List ℕ) (t : Tally) (r : Result·std Outcome RunError) (l' lasso' : List ℕ) (t' : Tally)
     → lent r l' lasso' t' ≡ outcome turns offsets targets flags P l lasso t
     → Call offsets targets flags turns P (refusal_of (length l) (length lasso) turns offsets targets flags P) l lasso t r l' lasso' t'
 unfolding outcome
@@ -71,7 +73,7 @@ run_is_call turns offsets targets flags P l lasso t r l' lasso' t' is =
 abbrev end_turns : (offsets targets flags : List ℕ) → ℕ → List ℕ
 end_turns offsets targets flags P = rounds P (most_moves (graph_of offsets targets flags) P)
 
-pub end_is_call : (offsets targets flags : List ℕ) (workers : ℕ) (l lasso : List ℕ) (t : Tally) (r : Outcome) (l' lasso' : List ℕ) (t' : Tally)
+pub end_is_call : (offsets targets flags : List ℕ) (workers : ℕ) (l lasso : List ℕ) (t : Tally) (r : Result·std Outcome RunError) (l' lasso' : List ℕ) (t' : Tally)
     → lent r l' lasso' t' ≡ outcome_to_end offsets targets flags workers l lasso t
     → Call offsets targets flags (end_turns offsets targets flags (usual workers)) (usual workers)
     (refusal_of (length l) (length lasso) [] offsets targets flags (usual workers)) l lasso t r l' lasso' t'
@@ -86,7 +88,7 @@ end_is_call offsets targets flags workers l lasso t r l' lasso' t' is =
       leaves = is;
     }
 
-module _ {offsets targets flags turns : List ℕ} {P number : ℕ} {l lasso : List ℕ} {t : Tally} {r : Outcome} {l' lasso' : List ℕ} {t' : Tally}
+module _ {offsets targets flags turns : List ℕ} {P number : ℕ} {l lasso : List ℕ} {t : Tally} {r : Result·std Outcome RunError} {l' lasso' : List ℕ} {t' : Tally}
     (call : Call offsets targets flags turns P number l lasso t r l' lasso' t') where
   abbrev g : Graph
   g = graph_of offsets targets flags
@@ -261,7 +263,7 @@ module _ {offsets targets flags turns : List ℕ} {P number : ℕ} {l lasso : Li
         (p, below, can)
 
 -- 3. ".. and in the same word as every other such list": two calls on the same words with as many workers
-pub same_word : {offsets targets flags turns turns₂ : List ℕ} {P number number₂ : ℕ} {l lasso l₂ lasso₂ : List ℕ} {t t₂ : Tally} {r r₂ : Outcome}
+pub same_word : {offsets targets flags turns turns₂ : List ℕ} {P number number₂ : ℕ} {l lasso l₂ lasso₂ : List ℕ} {t t₂ : Tally} {r r₂ : Result·std Outcome RunError}
     {l' lasso' l₂' lasso₂' : List ℕ} {t' t₂' : Tally} (a : Call offsets targets flags turns P number l lasso t r l' lasso' t')
     (b : Call offsets targets flags turns₂ P number₂ l₂ lasso₂ t₂ r₂ l₂' lasso₂' t₂') → refuses (told r) ≡ 0 → refuses (told r₂) ≡ 0
     → Cut P (P * (1 + 4 * length flags + 3 * length targets)) turns → Cut P (P * (1 + 4 * length flags + 3 * length targets)) turns₂

@@ -2,9 +2,11 @@
 use Prim.Native.Nat.{ℕ}
 use mathlib.Core.Path.{◌≡◌, ap}
 use mathlib.Core.List.{List}
+use Rattle.std.specs.Prelude.{Result}
 use Rattle.graphs.proofs.Settled.{settled}
 use Rattle.moves.specs.declared.Tally.{Tally}
 use Rattle.moves.specs.Tally.{zeroes}
+use Rattle.limits.specs.declared.RunError.{RunError}
 use Rattle.ends.specs.declared.Outcome.{Outcome}
 use Rattle.ends.proofs.Numbered.{told_one}
 use Rattle.search.specs.declared.Counted.{Counted}
@@ -12,7 +14,7 @@ use Rattle.search.specs.Outcomes.{Lent, lent, outcome, outcome_to_end}
 
 -- whatever is left
 module _ (out : Lent) (l' l'' lasso' lasso'' : List ℕ) where
-  lent_settled : (r r' : Outcome) (t' t'' : Tally) → lent r l' lasso' t' ≡ out → lent r' l'' lasso'' t'' ≡ out
+  lent_settled : (r r' : Result Outcome RunError) (t' t'' : Tally) → lent r l' lasso' t' ≡ out → lent r' l'' lasso'' t'' ≡ out
       → (r ≡ r') × (l' ≡ l'') × (lasso' ≡ lasso'') × (t' ≡ t'')
   lent_settled r r' t' t'' a b =
       let e = settled a b in
@@ -25,13 +27,13 @@ module _ (out : Lent) (l' l'' lasso' lasso'' : List ℕ) where
       (rw (outcome_is, tally_is), room_is, lasso_is)
 
 module _ (offsets targets flags : List ℕ) (workers : ℕ) (l lasso l' l'' lasso' lasso'' : List ℕ) where
-  pub run_settled : (turns : List ℕ) (t : Tally) (r r' : Outcome) (t' t'' : Tally)
+  pub run_settled : (turns : List ℕ) (t : Tally) (r r' : Result Outcome RunError) (t' t'' : Tally)
       → lent r l' lasso' t' ≡ outcome turns offsets targets flags workers l lasso t
       → lent r' l'' lasso'' t'' ≡ outcome turns offsets targets flags workers l lasso t
       → (r ≡ r') × (l' ≡ l'') × (lasso' ≡ lasso'') × (t' ≡ t'')
   run_settled turns t = lent_settled (outcome turns offsets targets flags workers l lasso t) l' l'' lasso' lasso''
 
-  pub run_to_end_settled : (t : Tally) (r r' : Outcome) (t' t'' : Tally)
+  pub run_to_end_settled : (t : Tally) (r r' : Result Outcome RunError) (t' t'' : Tally)
       → lent r l' lasso' t' ≡ outcome_to_end offsets targets flags workers l lasso t
       → lent r' l'' lasso'' t'' ≡ outcome_to_end offsets targets flags workers l lasso t
       → (r ≡ r') × (l' ≡ l'') × (lasso' ≡ lasso'') × (t' ≡ t'')

@@ -66,7 +66,7 @@ pub fn run(
 }
 
 // The run to the end: turns 0, 1, .., P − 1 repeated until there is an answer. 0 workers are the usual two.
-#[tactic(auto, using(crate::proofs::Runs::end_left))]
+#[tactic(auto, unfolding(crate::specs::Outcomes::outcome_to_end))]
 pub fn run_to_end(
     room: &mut [u16],
     lasso: &mut [u16],

@@ -1,3 +1,3 @@
--- In the order in which they build on each other: the verdict after a turn, the rounds of the run to the end, where a run stands from turn to turn,
--- and that the contracts settle the calls.
+-- The verdict after a turn, and that the contract settles the call.
 pub mod Answered
+pub mod Settled
