@@ -1,67 +1,43 @@
-// 01's number and line of what a reading or a run came to: "a definition gives this paper's number and values for each of its cases".
+// 01's number and line of a refusal: "a definition gives this paper's number and values for each of its cases".
 #![tactic(auto)]
 
-ghost use Rattle.std.specs.Prelude.{◌≡◌};
-ghost use Rattle.ends.specs.Told.{told};
-ghost use Rattle.statelist.specs.Told.{told as told_reading};
-ghost use Rattle.refusals.specs.Refusals.{of_reading, of_run};
+ghost use Rattle.refusals.specs.Refusals.{GivesReading, GivesRun};
 
-use ends::Outcome;
-use statelist::Reading;
+use limits::RunError;
+use statelist::ReadError;
 
-// 01's number of a refusal, and its line. Number 0 is no refusal.
-#[derive(Drop)]
+// 01's number of a refusal, and its line, 0 if it names none.
+#[derive(Clone, Copy, Debug, PartialEq, Eq)]
 pub struct Refusal {
     pub number: u32,
     pub line: usize,
 }
 
-pub fn of_reading(reading: Reading) -> Refusal
-    ensures { result ≡ of_reading (told_reading reading) }
-{
-    match reading {
-        Reading::Graph {
-            states: _,
-            transitions: _,
-        } => Refusal { number: 0, line: 0 },
-        Reading::TooLong => Refusal { number: 1, line: 0 },
-        Reading::NoForm { line } => Refusal { number: 2, line },
-        Reading::DeclaredTwice { line } => Refusal { number: 3, line },
-        Reading::NotDeclared { line } => Refusal { number: 4, line },
-        Reading::PairTwice { line } => Refusal { number: 5, line },
-        Reading::NoStateRoom { line } => Refusal { number: 6, line },
-        Reading::NoTransitionRoom { line } => Refusal { number: 7, line },
-        Reading::NoState => Refusal { number: 8, line: 0 },
+impl From<ReadError> for Refusal {
+    ghost from_gives = { GivesReading };
+
+    fn from(error: ReadError) -> Refusal {
+        let (number, line) = match error {
+            ReadError::TooLong => (1, 0),
+            ReadError::NoForm { line } => (2, line),
+            ReadError::DeclaredTwice { line } => (3, line),
+            ReadError::NotDeclared { line } => (4, line),
+            ReadError::PairTwice { line } => (5, line),
+            ReadError::NoStateRoom { line } => (6, line),
+            ReadError::NoTransitionRoom { line } => (7, line),
+            ReadError::NoState => (8, 0),
+        };
+        Refusal { number, line }
     }
 }
 
-pub fn of_run(outcome: Outcome) -> Refusal
-    ensures { result ≡ of_run (told outcome) }
-{
-    match outcome {
-        Outcome::Cycle {
-            stem: _,
-            loop_: _,
-            used: _,
-        } => Refusal { number: 0, line: 0 },
-        Outcome::None { used: _ } => Refusal { number: 0, line: 0 },
-        Outcome::Undecided { used: _ } => Refusal { number: 0, line: 0 },
-        Outcome::NoWorkers => Refusal { number: 9, line: 0 },
-        Outcome::NoGraph => Refusal {
-            number: 10,
+impl From<RunError> for Refusal {
+    ghost from_gives = { GivesRun };
+
+    fn from(error: RunError) -> Refusal {
+        Refusal {
+            number: error.number(),
             line: 0,
-        },
-        Outcome::RoomShort => Refusal {
-            number: 11,
-            line: 0,
-        },
-        Outcome::LassoShort => Refusal {
-            number: 12,
-            line: 0,
-        },
-        Outcome::NoSuchWorker => Refusal {
-            number: 13,
-            line: 0,
-        },
+        }
     }
 }
