@@ -58,9 +58,9 @@ pub room_cut : {l blue a red b before c own after : List ℕ} {k : ℕ} (n P p :
     → c ≡ own ++ after → length own ≡ stretch k
     → RoomCut n P p m rest blue red before own after
 room_cut n P p m rest same h fits form e1 l1 e2 l2 e3 l3 e4 l4 =
+    let each = spans_long n 0 p m.worker (λ q a b. fits q (omega (arith, h))) in
     let blue = halved n (form ∙ whole n P p h m rest m (λ q ne. refl)) (bits_long n m.blue) e1 (l1 ∙ same) in
     let red = halved n blue.1 (bits_long n m.red) e2 (l2 ∙ same) in
-    let each = spans_long n 0 p m.worker (λ q a b. fits q (omega (arith, h))) in
     let before = halved (p * stretch n) red.1 each e3 (l3 ∙ ap (λ i. p * stretch i) same) in
     let own = halved (stretch n) before.1 (span_long n (m.worker p) (fits p h)) e4 (l4 ∙ ap stretch same) in
     record { blue_is = blue.0; red_is = red.0; before_is = before.0; own_is = own.0; after_is = own.1 }

@@ -82,10 +82,11 @@ impl Stretch<'_, '_, '_, '_, '_> {
             → Holds self.new n (pops w s u w.place w.R) }
         ensures same { SameParts self.old self.new }
     {
+        let top = usize::from(s);
         self.outer_depth -= 1;
-        self.cyan[usize::from(s)] = 0;
+        self.cyan[top] = 0;
         self.outer[usize::from(self.outer_depth)] = 0;
-        self.taken[usize::from(s)] = 0;
+        self.taken[top] = 0;
     }
 
     // Move 3, not accepting.
