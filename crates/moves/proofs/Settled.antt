@@ -1,12 +1,12 @@
 -- A contract that is one equation settles the call: two outcomes that it allows are the same.
-use Rattle.std.proofs.Common.{ℕ, ◌≡◌, Bool}
+use Rattle.std.proofs.Common.{ℕ, ◌≡◌, Bool, List}
 use Rattle.graphs.proofs.Settled.{settled}
 use Rattle.moves.specs.declared.Place.{Place}
 use Rattle.moves.specs.declared.Move.{Move}
 use Rattle.moves.specs.declared.Tally.{Tally}
 use Rattle.moves.specs.Place.{started, left, seeded, backed, painted}
 use Rattle.moves.specs.Tally.{raised}
-use Rattle.moves.specs.Room.{kind_word, seed_word, place_of}
+use Rattle.moves.specs.Room.{words_of, place_of}
 
 module _ (q : Place) {r r' : Place} where
   pub started_settled : r ≡ started q → r' ≡ started q → r ≡ r'
@@ -27,11 +27,8 @@ module _ (q : Place) {r r' : Place} where
 pub raised_settled : (t : Tally) (made : Move) {r r' : Tally} → r ≡ raised t made → r' ≡ raised t made → r ≡ r'
 raised_settled t made = settled
 
-pub kind_settled : (q : Place) {r r' : ℕ} → r ≡ kind_word q → r' ≡ kind_word q → r ≡ r'
-kind_settled q = settled
-
-pub seed_settled : (q : Place) {r r' : ℕ} → r ≡ seed_word q → r' ≡ seed_word q → r ≡ r'
-seed_settled q = settled
+pub words_settled : (q : Place) {r r' : List ℕ} → r ≡ words_of q → r' ≡ words_of q → r ≡ r'
+words_settled q = settled
 
 pub place_of_settled : (kind seed : ℕ) {r r' : Place} → r ≡ place_of kind seed → r' ≡ place_of kind seed → r ≡ r'
 place_of_settled kind seed = settled

@@ -1,6 +1,6 @@
 -- What moves change: a worker, and the machine. The moves that make these changes are in Moves. A state's count of taken successors goes back to 0
 -- when it leaves a stack, and when it becomes the seed.
-use Rattle.std.specs.Prelude.{ℕ, suc, Bool, true, false, ◌||◌, List, [], ◌∷◌, eqb}
+use Rattle.std.specs.Prelude.{ℕ, suc, Bool, true, false, ◌||◌, List, [], ◌∷◌, ◌==◌}
 use Rattle.graphs.specs.Lists.{upd}
 use Rattle.moves.specs.declared.Place.{Place}
 use Rattle.moves.specs.declared.Place.TheVariants.{Fresh, Outer, Inner}
@@ -13,7 +13,7 @@ is_empty (x ∷ l) = false
 
 -- only s
 unfoldable pub only : ℕ → ℕ → Bool
-only s x = eqb x s
+only s x = x == s
 
 -- the initial state becomes cyan and the outer stack's only entry
 abbrev pub starts : Worker → Worker

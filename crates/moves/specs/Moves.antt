@@ -1,5 +1,5 @@
 -- The moves of 01, one definition each, in 01's order and words; and a turn, which makes the one move that the rules give worker p.
-use Rattle.std.specs.Prelude.{ℕ, Bool, cond, not, ◌&&◌, ◌||◌, List, [], ◌∷◌, eqb, drop}
+use Rattle.std.specs.Prelude.{ℕ, Bool, if◌then◌else◌, not, ◌&&◌, ◌||◌, List, [], ◌∷◌, ◌==◌, drop}
 use Rattle.graphs.specs.Lists.{every}
 use Rattle.graphs.specs.Graph.{Graph}
 use Rattle.moves.specs.declared.Place.{Place}
@@ -30,7 +30,7 @@ module _ (g : Graph) (p : ℕ) (m : Machine) where
 
   -- every accepting state of R other than the seed z is red
   unfoldable pub others_red : ℕ → Bool
-  others_red z = every g.size (λ a. not (me.R a && g.accepting a && not (eqb a z)) || m.red a)
+  others_red z = every g.size (λ a. not (me.R a && g.accepting a && not (a == z)) || m.red a)
 
   -- 01: "1. Not started: the initial state becomes cyan and the outer stack's only entry, blue or not."
   unfoldable pub move_1 : Made
@@ -39,27 +39,23 @@ module _ (g : Graph) (p : ℕ) (m : Machine) where
   -- 01: "2. Outer, a successor left: take it. If it is neither cyan for p nor blue, it becomes cyan and goes on the stack."
   unfoldable pub move_2 : ℕ → ℕ → Made
   move_2 s x =
-      cond (me.cyan x || m.blue x)
-      (record { move = Skip s; machine = put m p (takes me s) })
-      (record { move = Enter s x; machine = put m p (enters me s x) })
+      if me.cyan x || m.blue x then record { move = Skip s; machine = put m p (takes me s) }
+      else record { move = Enter s x; machine = put m p (enters me s x) }
 
   -- 01: "3. Outer, none left: the top becomes blue. If not accepting, it loses cyan and leaves the stack; an empty stack means done. If
   -- accepting, it becomes the seed, R holds only it, and it starts the inner stack, red or not."
   unfoldable pub move_3 : ℕ → List ℕ → Made
   move_3 s u =
-      cond (g.accepting s)
-      (record { move = Seed s; machine = put_blue m p (seeds me s) s })
-      (record { move = Leave s; machine = put_blue m p (pops me s u (left Outer (is_empty u)) me.R) s })
+      if g.accepting s then record { move = Seed s; machine = put_blue m p (seeds me s) s }
+      else record { move = Leave s; machine = put_blue m p (pops me s u (left Outer (is_empty u)) me.R) s }
 
   -- 01: "4. Inner, a successor left: take it. If cyan for p, the answer is "cycle". Else, if neither in R nor red, it joins R and the inner
   -- stack."
   unfoldable pub move_4 : ℕ → ℕ → Made
   move_4 s x =
-      cond (me.cyan x)
-      (record { move = Hit s x; machine = put m p (takes me s) })
-      (cond (me.R x || m.red x)
-      (record { move = Pass s; machine = put m p (takes me s) })
-      (record { move = Join s x; machine = put m p (joins me s x) }))
+      if me.cyan x then record { move = Hit s x; machine = put m p (takes me s) }
+      else if me.R x || m.red x then record { move = Pass s; machine = put m p (takes me s) }
+      else record { move = Join s x; machine = put m p (joins me s x) }
 
   -- 01: "5. Inner, none left: the top leaves; an empty inner stack means waiting."
   unfoldable pub move_5 : ℕ → ℕ → List ℕ → Made
@@ -69,9 +65,8 @@ module _ (g : Graph) (p : ℕ) (m : Machine) where
   -- and leaves the outer stack; an empty stack means done. Otherwise nothing changes (a wait)."
   unfoldable pub move_6 : ℕ → List ℕ → Made
   move_6 z u =
-      cond (others_red z)
-      (record { move = Paint z; machine = put_red m p (pops me z u (painted (Waiting z) (is_empty u)) empty) })
-      (record { move = Wait; machine = m })
+      if others_red z then record { move = Paint z; machine = put_red m p (pops me z u (painted (Waiting z) (is_empty u)) empty) }
+      else record { move = Wait; machine = m }
 
   -- 01: "7. Done: nothing changes."
   unfoldable pub move_7 : Made

@@ -1,5 +1,5 @@
 -- A worker's place, and what each move that changes it makes of it. A place that the move is not for stays as it is.
-use Rattle.std.specs.Prelude.{ℕ, Bool, true, false, cond}
+use Rattle.std.specs.Prelude.{ℕ, Bool, true, false, if◌then◌else◌}
 use Rattle.moves.specs.declared.Place.{Place}
 use Rattle.moves.specs.declared.Place.TheVariants.{Fresh, Outer, Inner, Waiting, Done}
 
@@ -14,7 +14,7 @@ started Done = Done
 -- move 3, not accepting: "it loses cyan and leaves the stack; an empty stack means done"
 abbrev pub left : Place → Bool → Place
 left Fresh last = Fresh
-left Outer last = cond last Done Outer
+left Outer last = if last then Done else Outer
 left (Inner z) last = Inner z
 left (Waiting z) last = Waiting z
 left Done last = Done
@@ -31,7 +31,7 @@ seeded Done top = Done
 abbrev pub backed : Place → Bool → Place
 backed Fresh last = Fresh
 backed Outer last = Outer
-backed (Inner z) last = cond last (Waiting z) (Inner z)
+backed (Inner z) last = if last then Waiting z else Inner z
 backed (Waiting z) last = Waiting z
 backed Done last = Done
 
@@ -40,7 +40,7 @@ abbrev pub painted : Place → Bool → Place
 painted Fresh last = Fresh
 painted Outer last = Outer
 painted (Inner z) last = Inner z
-painted (Waiting z) last = cond last Done Outer
+painted (Waiting z) last = if last then Done else Outer
 painted Done last = Done
 
 abbrev pub is_done : Place → Bool

@@ -1,6 +1,6 @@
 -- The form of the working room: the words of a machine of n states and P workers (docs/ROOM.md). One state has one form, and different states
 -- have different forms.
-use Rattle.std.specs.Prelude.{ℕ, zero, suc, ◌+◌, ◌-◌, ◌*◌, ◌<◌, ◌≤◌, ◌≡◌, Bool, true, false, cond, List, [], ◌∷◌, ◌++◌, reverse, eqb, length, replicate}
+use Rattle.std.specs.Prelude.{ℕ, zero, suc, ◌+◌, ◌-◌, ◌*◌, ◌<◌, ◌≤◌, ◌≡◌, Bool, true, false, if◌then◌else◌, List, [], ◌∷◌, ◌++◌, reverse, ◌==◌, length, replicate}
 use Rattle.graphs.specs.Lists.{tab}
 use Rattle.moves.specs.declared.Place.{Place}
 use Rattle.moves.specs.declared.Place.TheVariants.{Fresh, Outer, Inner, Waiting, Done}
@@ -37,7 +37,7 @@ abbrev pub words_of : Place → List ℕ
 words_of q = kind_word q ∷ seed_word q ∷ []
 
 abbrev pub place_of : ℕ → ℕ → Place
-place_of k z = cond (eqb k 0) Fresh (cond (eqb k 1) Outer (cond (eqb k 2) (Inner z) (cond (eqb k 3) (Waiting z) Done)))
+place_of k z = if k == 0 then Fresh else if k == 1 then Outer else if k == 2 then Inner z else if k == 3 then Waiting z else Done
 
 -- the words of one worker's stretch, and their number
 unfoldable pub span : ℕ → Worker → List ℕ

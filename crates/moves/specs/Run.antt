@@ -1,5 +1,5 @@
 -- A run over a turn list, and the run to the end.
-use Rattle.std.specs.Prelude.{ℕ, zero, suc, Bool, cond, List, [], ◌∷◌, ◌++◌, reverse, eqb, drop}
+use Rattle.std.specs.Prelude.{ℕ, zero, suc, Bool, if◌then◌else◌, List, [], ◌∷◌, ◌++◌, reverse, ◌==◌, drop}
 use Rattle.graphs.specs.Lists.{every}
 use Rattle.graphs.specs.Graph.{Graph}
 use Rattle.moves.specs.declared.Move.{Move}
@@ -18,11 +18,11 @@ pub data Answer : Type 0 where
 -- the part of a stack below c; and the part from its top down to c
 unfoldable pub below : ℕ → List ℕ → List ℕ
 below c [] = []
-below c (x ∷ l) = cond (eqb x c) l (below c l)
+below c (x ∷ l) = if x == c then l else below c l
 
 unfoldable pub down_to : ℕ → List ℕ → List ℕ
 down_to c [] = []
-down_to c (x ∷ l) = cond (eqb x c) (x ∷ []) (x ∷ down_to c l)
+down_to c (x ∷ l) = if x == c then x ∷ [] else x ∷ down_to c l
 
 -- 01: "For "cycle" on taking state c: the stem is the outer stack below c; the loop is the outer stack from c up to the seed, then the inner
 -- stack above the seed."
@@ -37,7 +37,7 @@ unfoldable pub all_done : ℕ → Machine → Bool
 all_done P m = every P (λ q. is_done (m.worker q).place)
 
 abbrev pub quiet : ℕ → Machine → Answer
-quiet P m = cond (all_done P m) none undecided
+quiet P m = if all_done P m then none else undecided
 
 -- the answer after worker p's move, with P workers
 abbrev pub answer_to : ℕ → ℕ → Machine → Move → Answer
