@@ -14,13 +14,6 @@ pub padded_take : (k n : ℕ) (l : List ℕ) → length l ≡ n → take n (padd
 unfolding padded
 padded_take k n l e = take_at l (zeros (k - length l)) n e
 
-pub padded_long : (k : ℕ) (l : List ℕ) → length l ≤ k → length (padded k l) ≡ k
-unfolding padded
-padded_long k l h = simp (length-append, length-replicate) (omega arith)
-
-pub padded_whole : (l m : List ℕ) (k : ℕ) → l ≡ padded k m → length l ≡ k → l ≡ padded (length l) m
-padded_whole l m k e long = e ∙ ap (λ j. padded j m) (sym long)
-
 -- a list with the words of l in front and zeros behind them
 pub padded_is : (l m : List ℕ) → length l ≤ length m → ((v : ℕ) → v < length l → get_or m v 0 ≡ get_or l v 0)
     → ((v : ℕ) → length l ≤ v → get_or m v 0 ≡ 0) → m ≡ padded (length m) l
