@@ -1,7 +1,6 @@
 -- What the functions of src/ find in a text from a place on. A label is handed on as its length and two words, which are its first eight bytes
 -- and the rest of them, read as numbers in base 256. Labels have no byte 0, so different labels have different words (`words_differ`).
-use Rattle.std.specs.Prelude.{ℕ, zero, suc, ◌+◌, ◌*◌, Bool, cond, ◌&&◌, List, [], ◌∷◌, Option, Some, None, ltb, length, get_or, take, drop}
-use Rattle.lines.specs.Bytes.{in_label}
+use Rattle.std.specs.Prelude.{ℕ, ◌+◌, ◌*◌, Bool, cond, ◌&&◌, List, [], ◌∷◌, Option, Some, None, ltb, length, get_or, take, drop}
 use Rattle.lines.specs.Line.{pieces, field, is_state, is_transition, flag_of}
 use Rattle.lines.specs.declared.Label.{Label}
 use Rattle.lines.specs.declared.StateLine.{StateLine}
@@ -20,12 +19,6 @@ second_word label = value_from 0 (drop 8 label)
 
 unfoldable pub label_of : List ℕ → Label
 label_of label = record { len = length label; first = first_word label; second = second_word label }
-
--- how many of the first k bytes a label may hold, up to the first that it may not
-unfoldable pub label_run : ℕ → List ℕ → ℕ
-label_run zero l = 0
-label_run (suc k) [] = 0
-label_run (suc k) (b ∷ l) = cond (in_label b) (suc (label_run k l)) 0
 
 -- the first line of what is left of a text; and that a line feed ends it
 unfoldable pub first_line : List ℕ → List ℕ

@@ -1,5 +1,5 @@
 // What stands at a place of a text: the front of a line, which is its letter and a tab, and a label.
-ghost use Rattle.std.specs.Prelude.{ℕ, ◌≡◌, ◌≢◌, ◌≤◌, List, [], ◌∷◌, MatchOption, IfSome, length, drop};
+ghost use Rattle.std.specs.Prelude.{ℕ, ◌≡◌, ◌≢◌, ◌≤◌, List, [], ◌∷◌, MatchOption, IfSome, length, take, drop};
 ghost use Rattle.lines.specs.Scan.{part_of, label_here, Begins};
 
 use crate::Label;
@@ -23,7 +23,7 @@ struct Part {
 
 // The first of up to eight label bytes, and their word.
 fn first_part(left: &[u8]) -> Part
-    ensures is { result ≡ part_of left.now }
+    ensures is { result ≡ part_of (take 8 left.now) }
     ensures within { (result.len ≤ 8) × (result.len ≤ length left.now) }
 {
     let mut len = 0;

@@ -2,45 +2,42 @@
 use mathlib.Core.Path.{sym, ◌∙◌}
 use native.Mathlib.Omega.{arith}
 use Rattle.lines.specs.Bytes.{in_label}
-use Rattle.lines.proofs.Part.{taken_none, taken_fits, taken_more, taken_all}
-use Rattle.lines.proofs.Run.{few_at, few_end, run_stop}
+use Rattle.std.proofs.lemmas.List.{length-take}
+use Rattle.std.proofs.lemmas.List.Sums.{prefix_len-drop_no, prefix_len-drop_all}
+use Rattle.lines.proofs.Part.{taken_none, taken_fits, taken_more, taken_all, few_is}
 use Rattle.lines.proofs.scan.first_part.Goals as goal
 
 pub loop-byte-init : goal.loop-byte-init
 loop-byte-init c = record { taken = taken_none _; all = omega arith }
 
 pub overflow_mul-word : goal.overflow_mul-word
-overflow_mul-word c =
-    let l = c.loop-byte in
-    let at = few_at c.args.left.now l.byte-index c.min.ensures c.loop-byte-test.true in
-    omega (arith, taken_fits _ _ _ l.invariant.taken at.0)
+overflow_mul-word c = omega (arith, taken_fits _ _ _ c.loop-byte.invariant.taken (omega (arith, length-take c.min.result c.args.left.now)))
 
 pub overflow_add-word : goal.overflow_add-word
-overflow_add-word c =
-    let l = c.loop-byte in
-    let at = few_at c.args.left.now l.byte-index c.min.ensures c.loop-byte-test.true in
-    omega (arith, taken_fits _ _ _ l.invariant.taken at.0)
+overflow_add-word c = omega (arith, taken_fits _ _ _ c.loop-byte.invariant.taken (omega (arith, length-take c.min.result c.args.left.now)))
 
 pub loop-byte-preserved : goal.loop-byte-preserved
 unfolding in_label
 loop-byte-preserved c =
-    let l = c.loop-byte in
-    let at = few_at c.args.left.now l.byte-index c.min.ensures c.loop-byte-test.true in
+    let few = few_is c.args.left.now c.min.ensures in
     record {
-      taken = taken_more _ _ _ l.invariant.taken c.from.result at.0 at.1 (sym at.2 ∙ sym c.from.ensures)
+      taken =
+          taken_more _ _ _ c.loop-byte.invariant.taken c.from.result (rw few at c.loop-byte-test.true) (sym (rw few at c.from.ensures))
           (rw (c.from.ensures, ← c.of.ensures) (sym c.is_of_label.ensures ∙ c.if-not-is_of_label.false)) (omega arith);
-      all = omega (arith, l.invariant.all);
+      all = omega (arith, c.loop-byte.invariant.all);
     }
 
 pub returns-after-loop-byte-clause-is : goal.returns-after-loop-byte-clause-is
 returns-after-loop-byte-clause-is c =
     let l = c.loop-byte in
-    rw l.invariant.all (taken_all _ _ _ l.invariant.taken (few_end c.args.left.now l.byte-index c.min.ensures c.loop-byte-test.false))
+    let few = few_is c.args.left.now c.min.ensures in
+    rw l.invariant.all (taken_all _ _ _ l.invariant.taken (prefix_len-drop_all in_label _ l.byte-index (rw few at c.loop-byte-test.false)))
 
 pub returns-then-not-is_of_label-clause-is : goal.returns-then-not-is_of_label-clause-is
 unfolding in_label
 returns-then-not-is_of_label-clause-is c =
     let l = c.loop-byte in
-    let at = few_at c.args.left.now l.byte-index c.min.ensures c.loop-byte-test.true in
-    rw l.invariant.all (taken_all _ _ _ l.invariant.taken (run_stop 8 l.byte-index _ at.0 at.1
-    (rw (← at.2, ← c.of.ensures) (sym c.is_of_label.ensures ∙ c.if-not-is_of_label.true))))
+    let few = few_is c.args.left.now c.min.ensures in
+    rw l.invariant.all
+    (taken_all _ _ _ l.invariant.taken (prefix_len-drop_no in_label _ l.byte-index 0 (rw few at c.loop-byte-test.true)
+    (rw (← few, ← c.of.ensures) (sym c.is_of_label.ensures ∙ c.if-not-is_of_label.true))))
