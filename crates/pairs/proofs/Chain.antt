@@ -14,7 +14,7 @@ use native.Mathlib.Omega.{arith}
 use borrow.Author.Tests.{eqb-true, eq-eqb, ne_eqb}
 use Rattle.graphs.proofs.Stamps.{zeroes_at}
 use Rattle.graphs.proofs.Tests.{and_cases, same?}
-use Rattle.pairs.specs.declared.Found.TheVariants.{At, Nothing}
+use Rattle.std.proofs.Common.{Some, None}
 use Rattle.pairs.specs.Pairs.{last_with, is_pair, found_at, found, buckets, bucket_of, in_bucket, Chain}
 use Rattle.pairs.proofs.Last.{last_hit, last_miss, last_le, last_at, last_ext, last_skip}
 
@@ -122,12 +122,12 @@ module _ (first second : List ℕ) (a b : ℕ) where
     pub way_less : (j i : ℕ) → Way first second a b n j → j ≡ suc i → get_or next i 0 < j
     way_less j i w e = omega (arith, next_is j i w e, last_le (in_bucket first second (bucket_of a b)) i)
 
-  pub way_found : (n j i : ℕ) → Way first second a b n j → j ≡ suc i → is_pair first second a b i ≡ true → At i ≡ found (is_pair first second a b) n
+  pub way_found : (n j i : ℕ) → Way first second a b n j → j ≡ suc i → is_pair first second a b i ≡ true → Some i ≡ found (is_pair first second a b) n
   unfolding found
   way_found n j i w e hit =
       ap found_at (sym (last_hit (is_pair first second a b) i hit) ∙ ap (last_with (is_pair first second a b)) (sym e) ∙ w.same)
 
-  pub way_end : (n j : ℕ) → Way first second a b n j → j ≡ 0 → Nothing ≡ found (is_pair first second a b) n
+  pub way_end : (n j : ℕ) → Way first second a b n j → j ≡ 0 → None ≡ found (is_pair first second a b) n
   unfolding found last_with
   way_end n j w e =
       ap found_at (ap (last_with (is_pair first second a b)) (sym e) ∙ w.same)

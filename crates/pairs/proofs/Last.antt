@@ -8,7 +8,7 @@ use native.Mathlib.Omega.{arith}
 use Rattle.graphs.specs.Lists.{any, tab}
 use Rattle.graphs.proofs.Tests.{either, clash, not_both, same?}
 use Rattle.graphs.proofs.Tab.{any_tab_none, any_tab_some}
-use Rattle.pairs.specs.declared.Found.TheVariants.{At, Nothing}
+use Rattle.std.proofs.Common.{Some, None}
 use Rattle.pairs.specs.Pairs.{last_with, found_at, found}
 
 module _ (f : ℕ → Bool) where
@@ -64,26 +64,26 @@ module _ (f : ℕ → Bool) where
       go rest (inl e) = rw e
       go rest (inr e) = rw (e, not_both (λ t. clash (w n t) e)) rest
 
-  pub found_nothing : (n : ℕ) → found f n ≡ Nothing → (i : ℕ) → i < n → f i ≡ false
+  pub found_none : (n : ℕ) → found f n ≡ None → (i : ℕ) → i < n → f i ≡ false
   unfolding found
-  found_nothing n q = last_none n (go (last_with f n) q)
+  found_none n q = last_none n (go (last_with f n) q)
     where
-      go : (k : ℕ) → found_at k ≡ Nothing → k ≡ 0
+      go : (k : ℕ) → found_at k ≡ None → k ≡ 0
       go zero e = refl
       go (suc k) e = cc
 
-  pub found_at_lem : (n i : ℕ) → found f n ≡ At i → (i < n) × (f i ≡ true)
+  pub found_some : (n i : ℕ) → found f n ≡ Some i → (i < n) × (f i ≡ true)
   unfolding found
-  found_at_lem n i q = last_at n i (go (last_with f n) q)
+  found_some n i q = last_at n i (go (last_with f n) q)
     where
-      go : (k : ℕ) → found_at k ≡ At i → k ≡ suc i
+      go : (k : ℕ) → found_at k ≡ Some i → k ≡ suc i
       go zero e = cc
       go (suc k) e = cc
 
   -- whether some value of h below n passes the test g
   module _ {ℓ} {A : Type ℓ} (g : A → Bool) (h : ℕ → A) (n : ℕ) where
-    pub any_found_nothing : found f n ≡ Nothing → ((i : ℕ) → i < n → f i ≡ false → g (h i) ≡ false) → any g (tab 0 n h) ≡ false
-    any_found_nothing q e = any_tab_none n g h (λ i k. e i k (found_nothing n q i k))
+    pub any_found_none : found f n ≡ None → ((i : ℕ) → i < n → f i ≡ false → g (h i) ≡ false) → any g (tab 0 n h) ≡ false
+    any_found_none q e = any_tab_none n g h (λ i k. e i k (found_none n q i k))
 
-    pub any_found_at : (i : ℕ) → found f n ≡ At i → (f i ≡ true → g (h i) ≡ true) → any g (tab 0 n h) ≡ true
-    any_found_at i q e = let at = found_at_lem n i q in any_tab_some n g h i at.0 (e at.1)
+    pub any_found_some : (i : ℕ) → found f n ≡ Some i → (f i ≡ true → g (h i) ≡ true) → any g (tab 0 n h) ≡ true
+    any_found_some i q e = let at = found_some n i q in any_tab_some n g h i at.0 (e at.1)

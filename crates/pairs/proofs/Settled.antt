@@ -3,10 +3,10 @@ use Prim.Native.Nat.{ℕ}
 use mathlib.Core.Path.{◌≡◌}
 use mathlib.Core.List.{List}
 use Rattle.graphs.proofs.Settled.{settled}
-use Rattle.pairs.specs.declared.Found.{Found}
+use Rattle.std.proofs.Common.{Option}
 use Rattle.pairs.specs.Pairs.{is_pair, found, Lists, inserted}
 
-pub find_settled : (first second : List ℕ) (n a b : ℕ) (r r' : Found)
+pub find_settled : (first second : List ℕ) (n a b : ℕ) (r r' : Option ℕ)
     → r ≡ found (is_pair first second a b) n → r' ≡ found (is_pair first second a b) n → r ≡ r'
 find_settled first second n a b r r' = settled
 

@@ -1,9 +1,7 @@
 -- Numbered pairs of words, first and second, looked up through chains. A chain goes through the numbers whose pairs are of one bucket, from the
 -- last to the first: the head of a bucket is one more than its last number, the next of a number one more than the last before it of its bucket,
 -- and 0 ends a chain. That all numbers between are of another bucket is the whole invariant.
-use Rattle.std.specs.Prelude.{ℕ, zero, suc, ◌+◌, ◌*◌, ◌%◌, ◌<◌, ◌≤◌, ◌≡◌, Bool, cond, ◌&&◌, List, eqb, length, get_or, set}
-use Rattle.pairs.specs.declared.Found.{Found}
-use Rattle.pairs.specs.declared.Found.TheVariants.{At, Nothing}
+use Rattle.std.specs.Prelude.{ℕ, zero, suc, ◌+◌, ◌*◌, ◌%◌, ◌<◌, ◌≤◌, ◌≡◌, Bool, cond, ◌&&◌, Option, Some, None, List, eqb, length, get_or, set}
 
 -- one more than the last number below n that passes the test; 0 if none does
 unfoldable pub last_with : (ℕ → Bool) → ℕ → ℕ
@@ -15,11 +13,11 @@ unfoldable pub is_pair : List ℕ → List ℕ → ℕ → ℕ → ℕ → Bool
 is_pair first second a b i = eqb (get_or first i 0) a && eqb (get_or second i 0) b
 
 -- the last number below n that passes the test
-abbrev pub found_at : ℕ → Found
-found_at zero = Nothing
-found_at (suc i) = At i
+abbrev pub found_at : ℕ → Option ℕ
+found_at zero = None
+found_at (suc i) = Some i
 
-unfoldable pub found : (ℕ → Bool) → ℕ → Found
+unfoldable pub found : (ℕ → Bool) → ℕ → Option ℕ
 found f n = found_at (last_with f n)
 
 -- the bucket of a pair. Any rule would do: which pairs share a bucket says nothing of what is found.

@@ -1,65 +1,85 @@
-// Numbered pairs of words in lent lists: looking a pair up, and adding one, through chains of pairs of one bucket.
+// Numbered pairs of words, found through chains of pairs of one bucket.
 #![tactic(auto)]
 
-mod buckets;
-
-ghost use Rattle.std.specs.Prelude.{◌≡◌, ◌<◌, length};
-ghost use Rattle.pairs.specs.Pairs.{is_pair, found, buckets, Chain, lists, inserted};
-
-use buckets::{bucket, is_pair};
-use words::{narrow, wide};
+ghost use Rattle.std.specs.Prelude.{◌≡◌, ◌+◌, ◌<◌, length, replicate};
+ghost use Rattle.pairs.specs.Pairs.{is_pair, found, buckets, bucket_of, Chain, lists, inserted};
 
 // How many chains there are.
 pub const BUCKETS: usize = 16384;
 
+// At most N pairs, numbered from 0. A chain goes through the numbers of one bucket, from the last to the first: `head` and `next` hold one more
+// than a number, and 0 ends the chain.
 #[derive(Drop)]
-pub enum Found {
-    At(usize),
-    Nothing,
+pub struct Index<const N: usize> {
+    pub first: [usize; N],
+    pub second: [usize; N],
+    pub head: [u16; BUCKETS],
+    pub next: [u16; N],
+    pub len: usize,
+    pub ghost chained: { Chain first second head next len },
 }
 
-// The last number below n whose pair is a, b.
-pub fn find(
-    first: &[usize],
-    second: &[usize],
-    head: &[u16],
-    next: &[u16],
-    n: usize,
-    a: usize,
-    b: usize,
-) -> Found
-    requires { Chain first.now second.now head.now next.now n }
-    ensures { result ≡ found (is_pair first.now second.now a b) n }
-{
-    let h = bucket(a, b);
-    let mut j = wide(head[h]);
-    while 0 < j {
-        let i = j - 1;
-        if is_pair(first, second, i, a, b) {
-            return Found::At(i);
+impl<const N: usize> Index<N> {
+    // No pair.
+    pub fn new() -> Self
+        ensures lists { lists result.first result.second result.head result.next
+            ≡ lists (replicate N 0) (replicate N 0) (replicate buckets 0) (replicate N 0) }
+        ensures len { result.len ≡ 0 }
+    {
+        Index {
+            first: [0; N],
+            second: [0; N],
+            head: [0; BUCKETS],
+            next: [0; N],
+            len: 0,
         }
-        j = wide(next[i]);
     }
-    Found::Nothing
+
+    // The last number whose pair is a, b.
+    pub fn find(&self, a: usize, b: usize) -> Option<usize>
+        ensures { result ≡ found (is_pair self.now.first self.now.second a b) self.now.len }
+    {
+        let mut at = usize::from(self.head[bucket(a, b)]);
+        while at > 0 {
+            let i = at - 1;
+            if self.is_pair(i, a, b) {
+                return Some(i);
+            }
+            at = usize::from(self.next[i]);
+        }
+        None
+    }
+
+    // The pair a, b becomes the next number, at the front of its chain.
+    pub fn insert(&mut self, a: usize, b: usize)
+        requires { (self.old.len < N) × (self.old.len < 65535) }
+        ensures lists { lists self.new.first self.new.second self.new.head self.new.next
+            ≡ inserted (lists self.old.first self.old.second self.old.head self.old.next) self.old.len a b }
+        ensures len { self.new.len ≡ self.old.len + 1 }
+    {
+        let h = bucket(a, b);
+        let n = self.len;
+        self.first[n] = a;
+        self.second[n] = b;
+        self.next[n] = self.head[h];
+        self.head[h] = (n + 1) as u16;
+        self.len = n + 1;
+    }
+
+    // The pair of number i is a, b.
+    #[tactic(auto, unfolding(crate::specs::Pairs::is_pair))]
+    fn is_pair(&self, i: usize, a: usize, b: usize) -> bool
+        requires { i < self.now.len }
+        ensures { result ≡ is_pair self.now.first self.now.second a b i }
+    {
+        self.first[i] == a && self.second[i] == b
+    }
 }
 
-// The pair a, b becomes number n, at the front of its chain.
-pub fn insert(
-    first: &mut [usize],
-    second: &mut [usize],
-    head: &mut [u16],
-    next: &mut [u16],
-    n: usize,
-    a: usize,
-    b: usize,
-)
-    requires { (length head.old ≡ buckets) × (n < length first.old) × (n < length second.old) × (n < length next.old) × (n < 65535) }
-    ensures { lists first.new second.new head.new next.new
-        ≡ inserted (lists first.old second.old head.old next.old) n a b }
+#[tactic(auto, unfolding(crate::specs::Pairs::bucket_of))]
+fn bucket(a: usize, b: usize) -> usize
+    ensures value { result ≡ bucket_of a b }
+    ensures low { result < buckets }
 {
-    let h = bucket(a, b);
-    first[n] = a;
-    second[n] = b;
-    next[n] = head[h];
-    head[h] = narrow(n + 1);
+    (a % 65521 * 4099 + b % 65521) % BUCKETS
 }
