@@ -15,7 +15,7 @@ use borrow.Author.Tests.{eqb-true, eq-eqb, ne_eqb}
 use Rattle.graphs.proofs.Stamps.{zeroes_at}
 use Rattle.graphs.proofs.Tests.{and_cases, same?}
 use Rattle.std.proofs.Common.{Some, None}
-use Rattle.pairs.specs.Pairs.{last_with, is_pair, found_at, found, buckets, bucket_of, in_bucket, Chain}
+use Rattle.pairs.specs.Pairs.{last_with, is_pair, found_at, found, buckets, bucket_of, in_bucket, Chain, Lists, lists, inserted}
 use Rattle.pairs.proofs.Last.{last_hit, last_miss, last_le, last_at, last_ext, last_skip}
 
 pub bucket_low : (a b : ℕ) → bucket_of a b < buckets
@@ -79,6 +79,14 @@ module _ (first second : List ℕ) (n a b : ℕ) where
       go i k (inr ne) =
           rw (get_or-set_other first n i a 0 ne, get_or-set_other second n i b 0 ne)
           (get_or-set_other next n i _ 0 ne ∙ c.goes i (omega arith) ∙ sym (last_same _ i (omega arith)))
+
+-- where a pair was put there was room for it
+pub inserted_room : (l : Lists) (n a b : ℕ) {first second head next : List ℕ} {k : ℕ} → lists first second head next ≡ inserted l n a b → k ≡ n + 1
+    → Chain first second head next k → (n < length l.firsts) × (n < length l.seconds)
+inserted_room l n a b put more c = (
+  omega (arith, more, c.in_first, ap (λ l. length l.firsts) put, length-set l.firsts n a),
+  omega (arith, more, c.in_second, ap (λ l. length l.seconds) put, length-set l.seconds n b),
+)
 
 -- a search for the pair a, b among the first n has come to j
 pub record Way (first second : List ℕ) (a b n j : ℕ) : Type 0 where

@@ -2,7 +2,6 @@
 use Prim.Native.Nat.{ℕ, zero, suc, ◌+◌, ◌*◌, ◌<◌, ◌≤◌}
 use mathlib.Core.Path.{◌≡◌, refl, sym, ap, ◌∙◌, subst}
 use mathlib.Core.List.{List, [], ◌∷◌, ◌++◌, append_assoc}
-use mathlib.Core.Logic.{inl, inr, ◌≢◌}
 use lib.ListN.{length, get_or, take}
 use lib.Seq.{take-suc}
 use native.Mathlib.Nat.{zero-add}
@@ -12,18 +11,15 @@ use Rattle.graphs.specs.Lists.{tab}
 use Rattle.graphs.specs.Words.{most_states, most_transitions}
 use Rattle.graphs.proofs.Tab.{tab_more}
 use Rattle.text.proofs.Nil.{nil_none, nil_some}
-use Rattle.std.proofs.Common.{Result, Ok, Err}
-use Rattle.statelist.specs.declared.Size.{Size}
+use Rattle.std.proofs.Common.{Ok, Err}
 use Rattle.statelist.specs.declared.ReadError.{ReadError}
 use Rattle.statelist.specs.declared.ReadError.TheVariants.{TooLong, NoState}
 use Rattle.text.specs.Text.{State, Transition, Rooms, Seen, Meaning, reads, refused, is_nil, at_end, most_text, meaning}
-use Rattle.text.specs.Lists.{zeros, padded, flags_of, places_of, targets_of, offsets_of, filled, rooms_of, outcome}
+use Rattle.text.specs.Lists.{zeros, padded, flags_of, places_of, targets_of, offsets_of, states_held, transitions_held, filled, rooms_of, outcome}
 use Rattle.statelist.specs.Told.{comes}
 use Rattle.text.specs.Labels.{label_at}
-use Rattle.statelist.specs.Loops.{state_at, states_in, transitions_in, from_here, Index, Refused, room_for, Declared, Listed, Fills, Closed}
-use Rattle.statelist.specs.Loops.{Closes}
+use Rattle.statelist.specs.Loops.{state_at, states_in, transitions_in, from_here, Labelled, Refused, room_for, Declared, Listed, Fills}
 use Rattle.statelist.specs.Build.{Buildable}
-use Rattle.statelist.proofs.Settled.{told_one}
 use Rattle.statelist.proofs.Here.{end_here}
 use Rattle.statelist.proofs.Declared.{states_long, blank_padded}
 use Rattle.statelist.proofs.Counts.{transitions_long}
@@ -76,9 +72,9 @@ module _ (text flags places : List ℕ) where
       (sym (append_assoc (take (2 * n) places) (get_or places (2 * n) 0 ∷ []) (get_or places (2 * n + 1) 0 ∷ [])))
 
 -- all lines were read: n states up to `start`, then e transitions up to the end
-module _ {text : List ℕ} {held held_t : ℕ} {flags places first second head next counted from to last prev : List ℕ} {start n at e : ℕ}
-    (d : Declared text held flags places first second head next start n)
-    (l : Listed text held_t n start first second head next counted from to last prev at e) (end : length text ≤ at) where
+module _ {text : List ℕ} {held held_t : ℕ} {flags places first second counted from to : List ℕ} {start n at e : ℕ}
+    (d : Declared text held flags places first second start n)
+    (l : Listed text held_t n start first second counted from to at e) (end : length text ≤ at) where
   abbrev states : List State
   states = states_in text flags places n
 
@@ -90,7 +86,7 @@ module _ {text : List ℕ} {held held_t : ℕ} {flags places first second head n
 
   ends : from_here (room_for held held_t) text 0 [] [] ≡ at_end [] all_seen
   ends =
-      sym (l.same flags places held d.index ∙ d.same held_t)
+      sym (l.same flags places held d.labelled ∙ d.same held_t)
       ∙ end_here (room_for held held_t) text at states ts end
 
   pub ends_none : n ≡ 0 → (offsets targets : List ℕ) → Fills offsets targets flags places (Err NoState) (from_here (room_for held held_t) text 0 [] [])
@@ -107,7 +103,7 @@ module _ {text : List ℕ} {held held_t : ℕ} {flags places first second head n
   ends_graph some offsets targets in_flags in_places offsets_are targets_are =
       let flags_are : flags ≡ padded (length flags) (flags_of states) =
       blank_padded flags n in_flags d.flags_blank ∙ ap (padded (length flags)) (sym (flags_in text flags places n in_flags)) in
-      let places_all = places_in text flags places n in_places d.index.lengths in
+      let places_all = places_in text flags places n in_places d.labelled.lengths in
       let places_are : places ≡ padded (length places) (places_of states) =
       blank_padded places (2 * n) in_places d.places_blank ∙ ap (padded (length places)) (sym places_all) in
       let means : from_here (room_for held held_t) text 0 [] [] ≡ reads all_seen =
@@ -116,43 +112,37 @@ module _ {text : List ℕ} {held held_t : ℕ} {flags places first second head n
       (rw (states_long text flags places n, transitions_long from to e) cc)
 
 -- what the lists of the graph are built from
-pub listed_buildable : {text : List ℕ} {held n start : ℕ} {first second head next counted from to last prev offsets targets : List ℕ} {at e : ℕ}
-    → Listed text held n start first second head next counted from to last prev at e
-    → n ≤ most_states → held ≤ most_transitions → n < length offsets → held ≤ length targets → held ≤ length from → held ≤ length to
+pub listed_buildable : {text : List ℕ} {held n start : ℕ} {first second counted from to offsets targets : List ℕ} {at e : ℕ}
+    → Listed text held n start first second counted from to at e
+    → n ≤ most_states → held ≤ most_transitions → n < length offsets → held ≤ length targets
     → targets ≡ zeros (length targets) → Buildable from to offsets targets e n
-listed_buildable l few_n few_held in_offsets in_targets in_from in_to blank =
+listed_buildable l few_n few_held in_offsets in_targets blank =
     record {
       few_states = few_n;
       few_transitions = omega (arith, l.few);
       in_offsets = in_offsets;
       in_targets = omega (arith, l.few);
-      in_from = omega (arith, l.few);
-      in_to = omega (arith, l.few);
       sources = λ i h. (l.below i h).0;
       aims = λ i h. (l.below i h).1;
       blank = blank;
     }
+
+pub rooms_same : (o t f p held held_t : ℕ) → held ≡ states_held o f p → held_t ≡ transitions_held t → rooms_of o t f p ≡ room_for held held_t
+unfolding rooms_of
+rooms_same o t f p held held_t e e' = rw (e, e') refl
 
 pub refused_fills : (offsets targets flags places : List ℕ) (error : ReadError) (means : Meaning) → Refused error means
     → Fills offsets targets flags places (Err error) means
 refused_fills offsets targets flags places error means x = subst (Fills offsets targets flags places (Err error)) (sym x) refl
 
 -- the T lines are refused
-pub stop_closes : (text : List ℕ) (held n start : ℕ) (first second head next offsets targets : List ℕ) (error : ReadError)
-    → ((flags places : List ℕ) (h : ℕ) → Index text places first second head next n
-    → Refused error (from_here (room_for h held) text start (states_in text flags places n) []))
-    → Closes text held n start first second head next offsets targets (Err error)
-stop_closes text held n start first second head next offsets targets error stop h flags places d in_flags in_places =
-    refused_fills offsets targets flags places error _ (sym (d.same held) ∙ stop flags places h d.index)
-
--- the T lines are read
-module _ {text : List ℕ} {held n start : ℕ} {first second head next counted from to last prev : List ℕ} {at e : ℕ}
-    (l : Listed text held n start first second head next counted from to last prev at e) (end : length text ≤ at) where
-  pub closed_closes : (offsets targets : List ℕ) (r : Result Size ReadError) → Closed n e (transitions_in from to e) offsets targets r
-      → Closes text held n start first second head next offsets targets r
-  closed_closes offsets targets r (inl none) h flags places d in_flags in_places = rw none.1 (ends_none d l end none.0 offsets targets)
-  closed_closes offsets targets r (inr some) h flags places d in_flags in_places =
-      rw some.1 (ends_graph d l end some.0 offsets targets in_flags in_places some.2 some.3)
+pub stop_fills : {text : List ℕ} {held start n : ℕ} {flags places first second : List ℕ} → Declared text held flags places first second start n
+    → (held_t : ℕ) (offsets targets : List ℕ) (error : ReadError)
+    → ((flags places : List ℕ) (h : ℕ) → Labelled text places first second n
+    → Refused error (from_here (room_for h held_t) text start (states_in text flags places n) []))
+    → Fills offsets targets flags places (Err error) (from_here (room_for held held_t) text 0 [] [])
+stop_fills {text} {held} {start} {n} {flags} {places} d held_t offsets targets error stop =
+    refused_fills offsets targets flags places error _ (sym (d.same held_t) ∙ stop flags places held d.labelled)
 
 -- What comes of a call. A text that is too long is refused as 1.
 too_long : (rooms : Rooms) (text : List ℕ) → most_text < length text → meaning rooms text ≡ refused 1 0
@@ -184,7 +174,7 @@ module _ (o t f p : ℕ) (text : List ℕ) where
         go (refused number line) is = absurd (let z : ◌≡◌ {A = ℕ} 0 1 = cc in omega arith)
 
     -- a refusal: all words are 0
-    comes_refused : (error : ReadError) → Fills offsets targets flags places (Err error) (from_here (rooms_of o t f p) text 0 [] [])
+    pub comes_refused : (error : ReadError) → Fills offsets targets flags places (Err error) (from_here (rooms_of o t f p) text 0 [] [])
         → comes (Err error) (zeros o) (zeros t) (zeros f) (zeros p) ≡ outcome o t f p text
     unfolding outcome
     comes_refused error fills = rw (not_long (rooms_of o t f p) text short) (go (from_here (rooms_of o t f p) text 0 [] []) fills)
@@ -193,14 +183,3 @@ module _ (o t f p : ℕ) (text : List ℕ) where
             → comes (Err error) (zeros o) (zeros t) (zeros f) (zeros p) ≡ filled o t f p means
         go (reads seen) is = let tells = ap (λ out. out.tells) is in absurd (let z : ◌≡◌ {A = ℕ} 0 1 = cc in omega arith)
         go (refused number line) is = rw is
-
-    -- the same of the lists that the second clearing leaves, where those of the first had these lengths
-    pub comes_cleared : {o' t' f' p' : ℕ} {offsets' targets' flags' places' : List ℕ} (error : ReadError)
-        → Fills offsets targets flags places (Err error) (from_here (rooms_of o' t' f' p') text 0 [] [])
-        → (offsets' ≡ zeros (length offsets)) × (targets' ≡ zeros (length targets)) × (flags' ≡ zeros (length flags))
-        × (places' ≡ zeros (length places))
-        → length offsets ≡ o' → length targets ≡ t' → length flags ≡ f' → length places ≡ p' → o' ≡ o → t' ≡ t → f' ≡ f → p' ≡ p
-        → comes (Err error) offsets' targets' flags' places' ≡ outcome o t f p text
-    comes_cleared error fills cleared o_same t_same f_same p_same o_is t_is f_is p_is =
-        rw (cleared.0, cleared.1, cleared.2, cleared.3, o_same, t_same, f_same, p_same, o_is, t_is, f_is, p_is)
-        (comes_refused error (rw (o_is, t_is, f_is, p_is) at fills))

@@ -10,9 +10,9 @@ use borrow.Author.Tests.{le-leb, lt-leb}
 use native.Mathlib.Nat.{add-zero}
 use native.Mathlib.Omega.{arith}
 use Rattle.graphs.proofs.Tests.{either, clash, and_cases, not_both}
-use Rattle.lines.specs.declared.Label.{Label}
-use Rattle.lines.specs.declared.StateLine.TheVariants.{State, NoState}
-use Rattle.lines.specs.declared.TransitionLine.TheVariants.{Transition, NoTransition}
+use Rattle.std.proofs.Common.{Some, None}
+use Rattle.lines.specs.declared.StateLine.{StateLine}
+use Rattle.lines.specs.declared.TransitionLine.{TransitionLine}
 use Rattle.lines.specs.Line.{cut, pieces, field, is_state, is_transition, flag_of}
 use Rattle.lines.specs.Found.{label_of, first_line, ended, past_line, state_found, transition_found}
 use Rattle.lines.proofs.Pieces.{pieces_some, pieces_ended, pieces_rest}
@@ -30,62 +30,67 @@ byte_inside (b ∷ l) zero x low e = omega arith
 byte_inside (b ∷ l) (suc i) x low e = let h = byte_inside l i x low e in omega arith
 
 -- the state that was found at a place is the page's
-pub record StateHere (left : List ℕ) (at : ℕ) (l : Label) (flag next : ℕ) : Type 0 where
+pub record StateHere (left : List ℕ) (at : ℕ) (found : StateLine) : Type 0 where
   pub whole : ended left ≡ true
   pub is : is_state (first_line left) ≡ true
-  pub label_is : l ≡ label_of (field 1 (first_line left))
-  pub flag_is : flag ≡ flag_of (first_line left)
-  pub next_is : next ≡ past_line at (first_line left)
+  pub label_is : found.label ≡ label_of (field 1 (first_line left))
+  pub flag_is : found.flag ≡ flag_of (first_line left)
+  pub next_is : found.next ≡ past_line at (first_line left)
 
-pub state_here : {left : List ℕ} {at : ℕ} {l : Label} {flag next : ℕ} → state_found at left ≡ State l flag next → StateHere left at l flag next
+pub state_here : {left : List ℕ} {at : ℕ} {found : StateLine} → state_found at left ≡ Some found → StateHere left at found
 unfolding state_found
-state_here {left} {at} {l} {flag} {next} e = go (either (ended left && is_state (first_line left)))
+state_here {left} {at} {found} e = go (either (ended left && is_state (first_line left)))
   where
-    go : ((ended left && is_state (first_line left)) ≡ true) ⊎ ((ended left && is_state (first_line left)) ≡ false) → StateHere left at l flag next
+    go : ((ended left && is_state (first_line left)) ≡ true) ⊎ ((ended left && is_state (first_line left)) ≡ false) → StateHere left at found
     go (inl b) =
         let line = first_line left in
         let parts = and_cases (ended left) (is_state line) b in
-        let e' : State (label_of (field 1 line)) (flag_of line) (past_line at line) ≡ State l flag next = rw b at e in
-        record { whole = parts.0; is = parts.1; label_is = cc; flag_is = cc; next_is = cc }
-    go (inr b) = let e' : NoState ≡ State l flag next = rw b at e in let z : ◌≡◌ {A = ℕ} 0 1 = cc in absurd (omega arith)
+        let named : StateLine = record { label = label_of (field 1 line); flag = flag_of line; next = past_line at line } in
+        let e' : Some named ≡ Some found = rw b at e in
+        let same : found ≡ named = cc in
+        record { whole = parts.0; is = parts.1; label_is = ap (λ f. f.label) same; flag_is = ap (λ f. f.flag) same; next_is = ap (λ f. f.next) same }
+    go (inr b) = let e' : None ≡ Some found = rw b at e in let z : ◌≡◌ {A = ℕ} 0 1 = cc in absurd (omega arith)
 
-pub state_none : (left : List ℕ) (at : ℕ) → state_found at left ≡ NoState → ended left ≡ true → is_state (first_line left) ≡ false
+pub state_none : (left : List ℕ) (at : ℕ) → state_found at left ≡ None → ended left ≡ true → is_state (first_line left) ≡ false
 unfolding state_found
 state_none left at e w =
     not_both (λ b.
     let line = first_line left in
-    let e' : State (label_of (field 1 line)) (flag_of line) (past_line at line) ≡ NoState = rw (w, b) at e in
+    let named : StateLine = record { label = label_of (field 1 line); flag = flag_of line; next = past_line at line } in
+    let e' : Some named ≡ None = rw (w, b) at e in
     let z : ◌≡◌ {A = ℕ} 0 1 = cc in omega arith)
 
 -- and so the transition
-pub record TransitionHere (left : List ℕ) (at : ℕ) (from to : Label) (next : ℕ) : Type 0 where
+pub record TransitionHere (left : List ℕ) (at : ℕ) (found : TransitionLine) : Type 0 where
   pub whole : ended left ≡ true
   pub is : is_transition (first_line left) ≡ true
-  pub from_is : from ≡ label_of (field 1 (first_line left))
-  pub to_is : to ≡ label_of (field 2 (first_line left))
-  pub next_is : next ≡ past_line at (first_line left)
+  pub from_is : found.from ≡ label_of (field 1 (first_line left))
+  pub to_is : found.to ≡ label_of (field 2 (first_line left))
+  pub next_is : found.next ≡ past_line at (first_line left)
 
-pub transition_here : {left : List ℕ} {at : ℕ} {from to : Label} {next : ℕ}
-    → transition_found at left ≡ Transition from to next → TransitionHere left at from to next
+pub transition_here : {left : List ℕ} {at : ℕ} {found : TransitionLine} → transition_found at left ≡ Some found → TransitionHere left at found
 unfolding transition_found
-transition_here {left} {at} {from} {to} {next} e = go (either (ended left && is_transition (first_line left)))
+transition_here {left} {at} {found} e = go (either (ended left && is_transition (first_line left)))
   where
     go : ((ended left && is_transition (first_line left)) ≡ true) ⊎ ((ended left && is_transition (first_line left)) ≡ false)
-        → TransitionHere left at from to next
+        → TransitionHere left at found
     go (inl b) =
         let line = first_line left in
         let parts = and_cases (ended left) (is_transition line) b in
-        let e' : Transition (label_of (field 1 line)) (label_of (field 2 line)) (past_line at line) ≡ Transition from to next = rw b at e in
-        record { whole = parts.0; is = parts.1; from_is = cc; to_is = cc; next_is = cc }
-    go (inr b) = let e' : NoTransition ≡ Transition from to next = rw b at e in let z : ◌≡◌ {A = ℕ} 0 1 = cc in absurd (omega arith)
+        let named : TransitionLine = record { from = label_of (field 1 line); to = label_of (field 2 line); next = past_line at line } in
+        let e' : Some named ≡ Some found = rw b at e in
+        let same : found ≡ named = cc in
+        record { whole = parts.0; is = parts.1; from_is = ap (λ f. f.from) same; to_is = ap (λ f. f.to) same; next_is = ap (λ f. f.next) same }
+    go (inr b) = let e' : None ≡ Some found = rw b at e in let z : ◌≡◌ {A = ℕ} 0 1 = cc in absurd (omega arith)
 
-pub transition_none : (left : List ℕ) (at : ℕ) → transition_found at left ≡ NoTransition → ended left ≡ true
+pub transition_none : (left : List ℕ) (at : ℕ) → transition_found at left ≡ None → ended left ≡ true
     → is_transition (first_line left) ≡ false
 unfolding transition_found
 transition_none left at e w =
     not_both (λ b.
     let line = first_line left in
-    let e' : Transition (label_of (field 1 line)) (label_of (field 2 line)) (past_line at line) ≡ NoTransition = rw (w, b) at e in
+    let named : TransitionLine = record { from = label_of (field 1 line); to = label_of (field 2 line); next = past_line at line } in
+    let e' : Some named ≡ None = rw (w, b) at e in
     let z : ◌≡◌ {A = ℕ} 0 1 = cc in omega arith)
 
 -- a line that is refused ends the reading; after one that is read, the rest is read
@@ -154,7 +159,7 @@ module _ (rooms : Rooms) (bytes : List ℕ) (at : ℕ) (states : List text.State
   here = first_line (drop at bytes)
 
   -- refused as 2
-  pub state_bad : at < length bytes → get_or bytes at 0 ≡ 83 → state_found at (drop at bytes) ≡ NoState
+  pub state_bad : at < length bytes → get_or bytes at 0 ≡ 83 → state_found at (drop at bytes) ≡ None
       → from_here rooms bytes at states [] ≡ refused 2 (suc (length states + 0))
   unfolding one_line at_end from_here
   state_bad h letter e = go (either (ended (drop at bytes)))
@@ -166,7 +171,7 @@ module _ (rooms : Rooms) (bytes : List ℕ) (at : ℕ) (states : List text.State
           refused_here rooms bytes at states [] w (rw (state_none (drop at bytes) at e w, letter_transition (drop at bytes) not_t))
       go (inr w) = rest_read rooms (drop at bytes) (seen_at at states []) w ∙ rw (nil_some (drop at bytes) (left_some bytes at h))
 
-  module _ {l : Label} {flag next : ℕ} (found : StateHere (drop at bytes) at l flag next) where
+  module _ {line : StateLine} (found : StateHere (drop at bytes) at line) where
     -- refused as 3
     pub state_twice : declared (field 1 here) states ≡ true → from_here rooms bytes at states [] ≡ refused 3 (suc (length states + 0))
     unfolding one_line state_line is_nil
@@ -180,13 +185,13 @@ module _ (rooms : Rooms) (bytes : List ℕ) (at : ℕ) (states : List text.State
 
     pub state_more : declared (field 1 here) states ≡ false → length states < rooms.for_states
         → from_here rooms bytes at states []
-        ≡ from_here rooms bytes next (states ++ (record { label = field 1 here; start = at + 2; flag = flag_of here } ∷ [])) []
+        ≡ from_here rooms bytes line.next (states ++ (record { label = field 1 here; start = at + 2; flag = flag_of here } ∷ [])) []
     unfolding one_line state_line with_state is_nil
     state_more d h =
         let state : text.State = record { label = field 1 here; start = at + 2; flag = flag_of here } in
         let states' : List text.State = states ++ (state ∷ []) in
         let number : suc (suc (length states + 0)) ≡ suc (length states' + 0) = rw (length-append states (state ∷ [])) (omega arith) in
-        read_here rooms bytes at states [] states' [] next found.whole found.next_is
+        read_here rooms bytes at states [] states' [] line.next found.whole found.next_is
         (rw (found.is, d, lt-leb _ _ h) (moved (sym found.next_is) number))
 
 -- T lines
@@ -195,7 +200,7 @@ module _ (rooms : Rooms) (bytes : List ℕ) (at : ℕ) (states : List text.State
   this = first_line (drop at bytes)
 
   -- refused as 2: it is no transition, and it is no state or follows a transition
-  pub transition_bad : at < length bytes → transition_found at (drop at bytes) ≡ NoTransition
+  pub transition_bad : at < length bytes → transition_found at (drop at bytes) ≡ None
       → (is_nil transitions ≡ false) ⊎ (get_or bytes at 0 ≢ 83)
       → from_here rooms bytes at states transitions ≡ refused 2 (suc (length states + length transitions))
   unfolding one_line state_line at_end from_here
@@ -216,7 +221,7 @@ module _ (rooms : Rooms) (bytes : List ℕ) (at : ℕ) (states : List text.State
           pick (inl s) = refused_here rooms bytes at states transitions w (rw (s, some))
           pick (inr s) = no_state s w
 
-  module _ {from to : Label} {next : ℕ} (found : TransitionHere (drop at bytes) at from to next) where
+  module _ {line : TransitionLine} (found : TransitionHere (drop at bytes) at line) where
     abbrev line_number : ℕ
     line_number = suc (length states + length transitions)
 
@@ -243,13 +248,13 @@ module _ (rooms : Rooms) (bytes : List ℕ) (at : ℕ) (states : List text.State
       transition_full d h = refused_here rooms bytes at states transitions found.whole (rw (no_state, found.is, known, d, le-leb _ _ h))
 
       pub transition_more : stood (transition_of this states) transitions ≡ false → length transitions < rooms.for_transitions
-          → from_here rooms bytes at states transitions ≡ from_here rooms bytes next states (transitions ++ (transition_of this states ∷ []))
+          → from_here rooms bytes at states transitions ≡ from_here rooms bytes line.next states (transitions ++ (transition_of this states ∷ []))
       unfolding one_line transition_line with_transition
       transition_more d h =
           let transitions' : List text.Transition = transitions ++ (transition_of this states ∷ []) in
           let number : suc line_number ≡ suc (length states + length transitions') =
           rw (length-append transitions (transition_of this states ∷ [])) (omega arith) in
-          read_here rooms bytes at states transitions states transitions' next found.whole found.next_is
+          read_here rooms bytes at states transitions states transitions' line.next found.whole found.next_is
           (rw (no_state, found.is, known, d, lt-leb _ _ h) (moved (sym found.next_is) number))
 
   -- the end of the text: refused as 8, or read

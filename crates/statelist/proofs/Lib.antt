@@ -2,7 +2,7 @@
 pub mod Settled
 pub mod Promises
 pub mod Here
-pub mod Index
+pub mod Labelled
 pub mod Declared
 pub mod Counts
 pub mod Listed

@@ -11,7 +11,6 @@ use Rattle.text.proofs.Filled.{states_fit, transitions_fit, meaning_graph, offse
 use Rattle.text.proofs.Labels.{label_within, labels_differ}
 use Rattle.text.proofs.Told.{Was, was}
 use Rattle.std.proofs.Common.{Ok}
-use Rattle.statelist.specs.declared.Size.{Size}
 use Rattle.statelist.specs.Told.{comes}
 
 cut_same : {k k' : ℕ} {l l' m : List ℕ} → k ≡ k' → l ≡ l' → take k' l' ≡ m → take k l ≡ m

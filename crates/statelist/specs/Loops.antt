@@ -1,26 +1,19 @@
 -- What the private loops of src/ ask and promise. No public contract cites this page. What was read so far stands in the lent lists and in the
 -- text, and what is left of the reading is said by the page `Text` of `text`.
-use Rattle.std.specs.Prelude.{ℕ, suc, ◌+◌, ◌*◌, ◌<◌, ◌≤◌, ◌≡◌, true, List, [], ◌⊎◌, ◌≢◌, length, get_or, drop, Result, Ok, Err}
+use Rattle.std.specs.Prelude.{ℕ, suc, ◌+◌, ◌*◌, ◌<◌, ◌≤◌, ◌≡◌, true, List, [], ◌≢◌, length, get_or, drop, Some, None, Result, Ok, Err}
 use Rattle.graphs.specs.Lists.{tab}
 use Rattle.lines.specs.Line.{pieces, is_label}
 use Rattle.lines.specs.Found.{first_word, second_word, state_found, transition_found}
 use Rattle.lines.specs.declared.Label.{Label}
 use Rattle.lines.specs.declared.StateLine.{StateLine}
-use Rattle.lines.specs.declared.TransitionLine.{TransitionLine}
-use Rattle.pairs.specs.declared.Found.TheVariants.{At, Nothing}
-use Rattle.pairs.specs.Pairs.{is_pair, found, Chain}
+use Rattle.pairs.specs.Pairs.{is_pair, found}
 use Rattle.text.specs.Text.{State, Transition, Rooms, Meaning, reads, refused, read_lines}
-use Rattle.text.specs.Lists.{refusal, padded, targets_from, targets_of, offsets_of, filled}
+use Rattle.text.specs.Lists.{refusal, targets_from, filled}
 use Rattle.statelist.specs.Told.{error_number, error_line, told, comes}
 use Rattle.text.specs.Labels.{label_at}
 use Rattle.statelist.specs.declared.Size.{Size}
 use Rattle.statelist.specs.declared.ReadError.{ReadError}
-use Rattle.statelist.specs.declared.ReadError.TheVariants.{NoState}
-use Rattle.statelist.specs.declared.went.Went.{Went}
-use Rattle.statelist.specs.declared.went.Went.TheVariants.{On, Stop}
-use Rattle.statelist.specs.declared.states.NextState.{NextState}
-use Rattle.statelist.specs.declared.states.NextState.TheVariants.{New, Bad}
-use Rattle.statelist.specs.declared.transitions.NextTransition.{NextTransition}
+use Rattle.statelist.specs.declared.transitions.Step.{Step}
 
 -- the states that stand in the lists of flags and places, and the transitions in two lists of numbers
 unfoldable pub state_at : (text flags places : List ℕ) → ℕ → State
@@ -38,9 +31,8 @@ from_here rooms text at states transitions =
     read_lines rooms (pieces (drop at text))
     (record { line = suc (length states + length transitions); at = at; states = states; transitions = transitions })
 
--- the labels of the first n states are labels, all different, and can be looked up by their two words
-pub record Index (text places first second head next : List ℕ) (n : ℕ) : Type 0 where
-  pub chain : Chain first second head next n
+-- the labels of the first n states are labels, all different, and their two words stand in two lists
+pub record Labelled (text places first second : List ℕ) (n : ℕ) : Type 0 where
   pub labels : (i : ℕ) → i < n → is_label (label_at text places i) ≡ true
   pub lengths : (i : ℕ) → i < n → length (label_at text places i) ≡ get_or places (2 * i + 1) 0
   pub firsts : (i : ℕ) → i < n → get_or first i 0 ≡ first_word (label_at text places i)
@@ -60,38 +52,36 @@ abbrev pub room_for : ℕ → ℕ → Rooms
 room_for held t = record { for_states = held; for_transitions = t }
 
 -- n states were read up to a place of the text, whatever the room for transitions
-pub record Declared (text : List ℕ) (held : ℕ) (flags places first second head next : List ℕ) (at n : ℕ) : Type 0 where
+pub record Declared (text : List ℕ) (held : ℕ) (flags places first second : List ℕ) (at n : ℕ) : Type 0 where
   pub same : (t : ℕ) → from_here (room_for held t) text at (states_in text flags places n) [] ≡ from_here (room_for held t) text 0 [] []
-  pub index : Index text places first second head next n
+  pub labelled : Labelled text places first second n
   pub few : n ≤ held
   pub in_text : at ≤ length text
   pub flags_blank : Blank flags n
   pub places_blank : Blank places (2 * n)
 
 -- what the S line at a place gives, whatever was read before it: a new state that there is room for, or a refusal
-pub record StateNew (text : List ℕ) (held : ℕ) (first second : List ℕ) (at n : ℕ) (label : Label) (flag after : ℕ) : Type 0 where
-  pub stands : state_found at (drop at text) ≡ StateLine.State label flag after
-  pub new : found (is_pair first second label.first label.second) n ≡ Nothing
+pub record StateNew (text : List ℕ) (held : ℕ) (first second : List ℕ) (at n : ℕ) (line : StateLine) : Type 0 where
+  pub stands : state_found at (drop at text) ≡ Some line
+  pub new : found (is_pair first second line.label.first line.label.second) n ≡ None
   pub room : n < held
 
-abbrev pub StateNext : (text : List ℕ) (held : ℕ) (first second head next : List ℕ) (at n : ℕ) → NextState → Type 0
-StateNext text held first second head next at n (New label flag after) = StateNew text held first second at n label flag after
-StateNext text held first second head next at n (Bad r) =
-    (flags places : List ℕ) (t : ℕ) → Declared text held flags places first second head next at n → Refused r (from_here (room_for held t) text 0 [] [])
+abbrev pub StateNext : (text : List ℕ) (held : ℕ) (first second : List ℕ) (at n : ℕ) → Result StateLine ReadError → Type 0
+StateNext text held first second at n (Ok line) = StateNew text held first second at n line
+StateNext text held first second at n (Err error) =
+    (flags places : List ℕ) (t : ℕ) → Declared text held flags places first second at n → Refused error (from_here (room_for held t) text 0 [] [])
 
 -- what reading the S lines gives: the line that it went to is none of them
-abbrev pub StatesRead : (text : List ℕ) (held : ℕ) (flags places first second head next : List ℕ) → Went → Type 0
-StatesRead text held flags places first second head next (On at n) =
-    Declared text held flags places first second head next at n × (get_or text at 0 ≢ 83)
-StatesRead text held flags places first second head next (Stop r) = (t : ℕ) → Refused r (from_here (room_for held t) text 0 [] [])
+abbrev pub StatesRead : (text : List ℕ) (held : ℕ) (flags places first second : List ℕ) (n : ℕ) → Result ℕ ReadError → Type 0
+StatesRead text held flags places first second n (Ok at) = Declared text held flags places first second at n × (get_or text at 0 ≢ 83)
+StatesRead text held flags places first second n (Err error) = (t : ℕ) → Refused error (from_here (room_for held t) text 0 [] [])
 
 -- e transitions were read from `start` up to a place of the text, and counted by their sources in `offsets`; whatever the flags of the states, and
 -- the room for states
-pub record Listed (text : List ℕ) (held n start : ℕ) (first second head next offsets from to last prev : List ℕ) (at e : ℕ) : Type 0 where
-  pub same : (flags places : List ℕ) (h : ℕ) → Index text places first second head next n
+pub record Listed (text : List ℕ) (held n start : ℕ) (first second offsets from to : List ℕ) (at e : ℕ) : Type 0 where
+  pub same : (flags places : List ℕ) (h : ℕ) → Labelled text places first second n
       → from_here (room_for h held) text at (states_in text flags places n) (transitions_in from to e)
       ≡ from_here (room_for h held) text start (states_in text flags places n) []
-  pub chain : Chain from to last prev e
   pub counts : (v : ℕ) → get_or offsets v 0 ≡ length (targets_from v (transitions_in from to e))
   pub below : (i : ℕ) → i < e → (get_or from i 0 < n) × (get_or to i 0 < n)
   pub few : e ≤ held
@@ -99,45 +89,31 @@ pub record Listed (text : List ℕ) (held n start : ℕ) (first second head next
   pub letter : e ≡ 0 → get_or text at 0 ≢ 83
 
 -- what the T line at a place gives: a new pair of states that there is room for, or a refusal
-pub record TransitionNew (text : List ℕ) (held n : ℕ) (first second from to : List ℕ) (at e i j after : ℕ) : Type 0 where
+pub record TransitionNew (text : List ℕ) (held n : ℕ) (first second from to : List ℕ) (at e : ℕ) (step : Step) : Type 0 where
   pub source : Label
   pub target : Label
-  pub stands : transition_found at (drop at text) ≡ TransitionLine.Transition source target after
-  pub source_is : found (is_pair first second source.first source.second) n ≡ At i
-  pub target_is : found (is_pair first second target.first target.second) n ≡ At j
-  pub new : found (is_pair from to i j) e ≡ Nothing
+  pub stands : transition_found at (drop at text) ≡ Some (record { from = source; to = target; next = step.next })
+  pub source_is : found (is_pair first second source.first source.second) n ≡ Some step.from
+  pub target_is : found (is_pair first second target.first target.second) n ≡ Some step.to
+  pub new : found (is_pair from to step.from step.to) e ≡ None
   pub room : e < held
 
-abbrev pub TransitionNext : (text : List ℕ) (held n : ℕ) (first second head next from to last prev : List ℕ) (at e : ℕ) → NextTransition → Type 0
-TransitionNext text held n first second head next from to last prev at e (NextTransition.New i j after) =
-    TransitionNew text held n first second from to at e i j after
-TransitionNext text held n first second head next from to last prev at e (NextTransition.Bad r) =
-    (start : ℕ) (offsets flags places : List ℕ) (h : ℕ) → Listed text held n start first second head next offsets from to last prev at e
-    → Index text places first second head next n → Refused r (from_here (room_for h held) text start (states_in text flags places n) [])
+abbrev pub TransitionNext : (text : List ℕ) (held n : ℕ) (first second from to : List ℕ) (at e : ℕ) → Result Step ReadError → Type 0
+TransitionNext text held n first second from to at e (Ok step) = TransitionNew text held n first second from to at e step
+TransitionNext text held n first second from to at e (Err error) =
+    (start : ℕ) (offsets flags places : List ℕ) (h : ℕ) → Listed text held n start first second offsets from to at e
+    → Labelled text places first second n → Refused error (from_here (room_for h held) text start (states_in text flags places n) [])
 
--- what reading the T lines gives
-abbrev pub TransitionsRead : (text : List ℕ) (held n start : ℕ) (first second head next offsets from to last prev : List ℕ) → Went → Type 0
-TransitionsRead text held n start first second head next offsets from to last prev (On at e) =
-    Listed text held n start first second head next offsets from to last prev at e × (length text ≤ at)
-TransitionsRead text held n start first second head next offsets from to last prev (Stop r) =
-    (flags places : List ℕ) (h : ℕ) → Index text places first second head next n
-    → Refused r (from_here (room_for h held) text start (states_in text flags places n) [])
+-- what reading the T lines gives, up to the end of the text
+abbrev pub TransitionsRead : (text : List ℕ) (held n start : ℕ) (first second offsets from to : List ℕ) (e : ℕ) → Result Unit ReadError → Type 0
+TransitionsRead text held n start first second offsets from to e (Ok done) =
+    (at : ℕ) × (Listed text held n start first second offsets from to at e × (length text ≤ at))
+TransitionsRead text held n start first second offsets from to e (Err error) =
+    (flags places : List ℕ) (h : ℕ) → Labelled text places first second n
+    → Refused error (from_here (room_for h held) text start (states_in text flags places n) [])
 
 -- what comes of the lists once the text is read: if it is refused, they may be left in any state
 abbrev pub Fills : (offsets targets flags places : List ℕ) → Result Size ReadError → Meaning → Type 0
 Fills offsets targets flags places r (reads seen) =
     comes r offsets targets flags places ≡ filled (length offsets) (length targets) (length flags) (length places) (reads seen)
 Fills offsets targets flags places r (refused number line) = told r ≡ refusal number line
-
--- the end of a reading: no state, or the lists of the graph
-abbrev pub Closed : (n e : ℕ) → List Transition → (offsets targets : List ℕ) → Result Size ReadError → Type 0
-Closed n e transitions offsets targets r =
-    ((n ≡ 0) × (r ≡ Err NoState))
-    ⊎ ((0 < n) × (r ≡ Ok (record { states = n; transitions = e }))
-    × (offsets ≡ padded (length offsets) (offsets_of n transitions)) × (targets ≡ padded (length targets) (targets_of n transitions)))
-
--- what comes of the T lines, whatever was done for the S lines
-abbrev pub Closes : (text : List ℕ) (held n start : ℕ) (first second head next offsets targets : List ℕ) → Result Size ReadError → Type 0
-Closes text held n start first second head next offsets targets r =
-    (h : ℕ) (flags places : List ℕ) → Declared text h flags places first second head next start n → n ≤ length flags → 2 * n ≤ length places
-    → Fills offsets targets flags places r (from_here (room_for h held) text 0 [] [])

@@ -3,17 +3,14 @@
 
 mod fill;
 mod lists;
-mod rooms;
 mod states;
 mod transitions;
-mod went;
 
 ghost use Rattle.std.specs.Prelude.{◌≡◌, length};
-ghost use Rattle.text.specs.Lists.{outcome};
+ghost use Rattle.text.specs.Lists.{outcome, zeros};
 ghost use Rattle.statelist.specs.Told.{comes};
 
-use fill::fill_all;
-use rooms::clear_all;
+use fill::fill;
 
 // The most bytes that a text has.
 pub const MOST_TEXT: usize = 1048576;
@@ -50,15 +47,27 @@ pub fn read(
         ≡ outcome (length offsets.old) (length targets.old) (length flags.old)
         (length places.old) text.now }
 {
-    clear_all(offsets, targets, flags, places);
-    if MOST_TEXT < text.len() {
+    clear(offsets, targets, flags, places);
+    if text.len() > MOST_TEXT {
         return Err(ReadError::TooLong);
     }
-    match fill_all(offsets, targets, flags, places, text) {
+    match fill(offsets, targets, flags, places, text) {
         Ok(size) => Ok(size),
         Err(error) => {
-            clear_all(offsets, targets, flags, places);
+            clear(offsets, targets, flags, places);
             Err(error)
         }
     }
+}
+
+fn clear(offsets: &mut [u16], targets: &mut [u16], flags: &mut [u16], places: &mut [u32])
+    ensures offsets { offsets.new ≡ zeros (length offsets.old) }
+    ensures targets { targets.new ≡ zeros (length targets.old) }
+    ensures flags { flags.new ≡ zeros (length flags.old) }
+    ensures places { places.new ≡ zeros (length places.old) }
+{
+    offsets.fill(0);
+    targets.fill(0);
+    flags.fill(0);
+    places.fill(0);
 }

@@ -1,4 +1,4 @@
--- Laws of the index of labels: what looking a label up by its two words says of the states, the empty index, and one state more.
+-- Laws of labels with their words in two lists: what looking a label up by its two words says of the states, no label, and one state more.
 use Prim.Native.Nat.{ℕ, zero, suc, ◌+◌, ◌*◌, ◌<◌}
 use mathlib.Core.Path.{◌≡◌, sym, ap, ◌∙◌}
 use mathlib.Core.Bool.{Bool, true, false}
@@ -16,14 +16,13 @@ use Rattle.graphs.proofs.Tab.{tab_more, tab_ext}
 use Rattle.graphs.proofs.Same.{eq_same, ne_same}
 use Rattle.lines.specs.Line.{is_label}
 use Rattle.lines.specs.Found.{first_word, second_word}
-use Rattle.pairs.specs.declared.Found.TheVariants.{At, Nothing}
-use Rattle.pairs.specs.Pairs.{is_pair, found, bucket_of, Chain}
-use Rattle.pairs.proofs.Last.{found_nothing, found_at_lem, any_found_nothing, any_found_at}
-use Rattle.pairs.proofs.Chain.{chain_more}
+use Rattle.std.proofs.Common.{Some, None}
+use Rattle.pairs.specs.Pairs.{is_pair, found}
+use Rattle.pairs.proofs.Last.{found_none, found_some, any_found_none, any_found_some}
 use Rattle.lines.proofs.Words.{words_differ}
 use Rattle.text.specs.Text.{State, declared, number_of}
 use Rattle.text.specs.Labels.{label_at}
-use Rattle.statelist.specs.Loops.{state_at, states_in, Index}
+use Rattle.statelist.specs.Loops.{state_at, states_in, Labelled}
 
 -- the number of a state among n: the first one with the label
 number_from : (l : List ℕ) (f : ℕ → State) (k n i : ℕ) → i < n → (f (k + i)).label ≡ l → ((j : ℕ) → j < i → (f (k + j)).label ≢ l)
@@ -37,7 +36,7 @@ number_from l f k (suc n) (suc i) h e ne =
     rw (ne_same l (f k).label other)
     (ap suc (number_from l f (suc k) n i (omega arith) (rw (past i) e) (λ j b. rw (past j) (ne (suc j) (omega arith)))))
 
-module _ {text places first second head next : List ℕ} {n : ℕ} (x : Index text places first second head next n)
+module _ {text places first second : List ℕ} {n : ℕ} (x : Labelled text places first second n)
     (l : List ℕ) (is : is_label l ≡ true) where
   abbrev asked : ℕ → Bool
   asked = is_pair first second (first_word l) (second_word l)
@@ -57,21 +56,21 @@ module _ {text places first second head next : List ℕ} {n : ℕ} (x : Index te
       let two : get_or second i 0 ≡ second_word l = x.seconds i h ∙ ap second_word e in
       rw (eq-eqb _ _ one) (eq-eqb _ _ two)
 
-  pub asked_not : found asked n ≡ Nothing → (i : ℕ) → i < n → label_at text places i ≢ l
-  asked_not q i h e = clash (label_asked i h e) (found_nothing asked n q i h)
+  pub asked_not : found asked n ≡ None → (i : ℕ) → i < n → label_at text places i ≢ l
+  asked_not q i h e = clash (label_asked i h e) (found_none asked n q i h)
 
-  pub label_unknown : (flags : List ℕ) → found asked n ≡ Nothing → declared l (states_in text flags places n) ≡ false
+  pub label_unknown : (flags : List ℕ) → found asked n ≡ None → declared l (states_in text flags places n) ≡ false
   unfolding declared states_in state_at
-  label_unknown flags q = any_found_nothing asked _ _ n q (λ i h e. ne_same l _ (λ s. asked_not q i h (sym s)))
+  label_unknown flags q = any_found_none asked _ _ n q (λ i h e. ne_same l _ (λ s. asked_not q i h (sym s)))
 
-  pub label_known : (flags : List ℕ) (i : ℕ) → found asked n ≡ At i → declared l (states_in text flags places n) ≡ true
+  pub label_known : (flags : List ℕ) (i : ℕ) → found asked n ≡ Some i → declared l (states_in text flags places n) ≡ true
   unfolding declared states_in state_at
-  label_known flags i q = any_found_at asked _ _ n i q (λ e. eq_same l _ (sym (asked_label i (found_at_lem asked n i q).0 e)))
+  label_known flags i q = any_found_some asked _ _ n i q (λ e. eq_same l _ (sym (asked_label i (found_some asked n i q).0 e)))
 
-  pub label_number : (flags : List ℕ) (i : ℕ) → found asked n ≡ At i → number_of l (states_in text flags places n) ≡ i
+  pub label_number : (flags : List ℕ) (i : ℕ) → found asked n ≡ Some i → number_of l (states_in text flags places n) ≡ i
   unfolding states_in state_at
   label_number flags i q =
-      let at = found_at_lem asked n i q in
+      let at = found_some asked n i q in
       let is_i = asked_label i at.0 at.1 in
       number_from l (state_at text flags places) 0 n i at.0 (rw (zero-add i) is_i)
       (λ j b e.
@@ -79,10 +78,9 @@ module _ {text places first second head next : List ℕ} {n : ℕ} (x : Index te
       let one = x.differ j i (omega (arith, at.0)) at.0 (is_j ∙ sym is_i) in
       omega arith)
 
-pub index_none : {text places first second head next : List ℕ} → Chain first second head next 0 → Index text places first second head next 0
-index_none c =
+pub labelled_none : {text places first second : List ℕ} → Labelled text places first second 0
+labelled_none =
     record {
-      chain = c;
       labels = λ i h. absurd (omega arith);
       lengths = λ i h. absurd (omega arith);
       firsts = λ i h. absurd (omega arith);
@@ -132,14 +130,12 @@ module _ (text places : List ℕ) (n start len : ℕ) (room : 2 * n + 1 < length
         get_or-set_same flags n flag 0 in_flags,
       )
 
-  pub index_more : {first second head next l : List ℕ} → Index text places first second head next n
-      → n < length first → n < length second → n < length next → is_label l ≡ true → take len (drop start text) ≡ l → length l ≡ len
+  pub labelled_more : {first second l : List ℕ} → Labelled text places first second n
+      → n < length first → n < length second → is_label l ≡ true → take len (drop start text) ≡ l → length l ≡ len
       → ((i : ℕ) → i < n → label_at text places i ≢ l)
-      → Index text places' (set first n (first_word l)) (set second n (second_word l)) (set head (bucket_of (first_word l) (second_word l)) (n + 1))
-      (set next n (get_or head (bucket_of (first_word l) (second_word l)) 0)) (n + 1)
-  index_more {first} {second} {head} {next} {l} x in_first in_second in_next is there long new =
+      → Labelled text places' (set first n (first_word l)) (set second n (second_word l)) (n + 1)
+  labelled_more {first} {second} {l} x in_first in_second is there long new =
       record {
-        chain = chain_more first second n (first_word l) (second_word l) head next x.chain in_first in_second in_next;
         labels = λ i h. each (λ m. is_label m ≡ true) (λ i k. x.labels i k) is i h (same? i n);
         lengths = λ i h. length_at i h (same? i n);
         firsts = λ i h. first_at i h (same? i n);
