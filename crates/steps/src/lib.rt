@@ -61,6 +61,6 @@ pub fn step(
         room.old tally.old result room.new tally.new }
 {
     let made = turn(room, graph, p);
-    *tally = tally.raised(made);
+    tally.raise(made);
     verdict_after(room, graph.states(), workers, made)
 }

@@ -15,5 +15,5 @@ verdict_after-requires c =
 pub returns : goal.returns
 returns c =
     let due = c.requires in
-    λ m rest formed. stepped due.held due.named formed (c.turn-made.ensures _ m rest due.named formed) c.raised.ensures
+    λ m rest formed. stepped due.held due.named formed (c.turn-made.ensures _ m rest due.named formed) c.raise.ensures
     (rw c.states.ensures at c.verdict_after.ensures)
