@@ -30,4 +30,3 @@ rounds_at P (suc k) i h = go (λ j. rounds_at P k (i - P) j) (below? i P)
         ∙ get_or-append-add (up_from 0 P) (rounds P k) (i - P) 0
         ∙ rest (omega (arith, mul-suc P k))
         ∙ sym (mod-eq-sub-mod high)
-

@@ -29,7 +29,15 @@ fn over(
         ≡ outcome_by plan.entry offsets.now targets.now flags.now workers
         room.old lasso.old tally.old }
 {
-    let graph = check(room.len(), lasso.len(), plan, offsets, targets, flags, workers)?;
+    let graph = check(
+        room.len(),
+        lasso.len(),
+        plan,
+        offsets,
+        targets,
+        flags,
+        workers,
+    )?;
     let n = graph.states();
     room[..room_size(n, workers)].fill(0);
     *tally = Tally::default();
@@ -62,7 +70,16 @@ pub fn run(
         ≡ outcome turns.now offsets.now targets.now flags.now workers
         room.old lasso.old tally.old }
 {
-    over(room, lasso, tally, Plan::Turns(turns), offsets, targets, flags, workers)
+    over(
+        room,
+        lasso,
+        tally,
+        Plan::Turns(turns),
+        offsets,
+        targets,
+        flags,
+        workers,
+    )
 }
 
 // The run to the end: turns 0, 1, .., P − 1 repeated until there is an answer. 0 workers are the usual two.
@@ -80,7 +97,16 @@ pub fn run_to_end(
         ≡ outcome_to_end offsets.now targets.now flags.now workers
         room.old lasso.old tally.old) × Settles (told result) }
 {
-    over(room, lasso, tally, Plan::Rounds, offsets, targets, flags, usual(workers))
+    over(
+        room,
+        lasso,
+        tally,
+        Plan::Rounds,
+        offsets,
+        targets,
+        flags,
+        usual(workers),
+    )
 }
 
 // What a run came to, with its tally.
@@ -105,7 +131,9 @@ pub fn counted_run(
         room.old lasso.old zeroes }
 {
     let mut tally = Tally::default();
-    let outcome = run(room, lasso, &mut tally, turns, offsets, targets, flags, workers);
+    let outcome = run(
+        room, lasso, &mut tally, turns, offsets, targets, flags, workers,
+    );
     Counted { outcome, tally }
 }
 
