@@ -3,7 +3,7 @@
 // The cases, and what has to be printed, are made by tests/texts.
 #![tactic(auto)]
 
-use statelist::ReadError;
+use refusals::Refusal;
 use std::fmt::Display;
 use std::io::{self, BufRead};
 
@@ -45,7 +45,7 @@ fn read(rt: &(impl Print + AllocGlobal), [o, t, f, p]: [usize; 4], text: &[u8]) 
     match statelist::read(&mut offsets, &mut targets, &mut flags, &mut places, text) {
         Ok(size) => println!(rt; "graph\t{}\t{}", size.states, size.transitions)?,
         Err(error) => {
-            let (number, line) = refusal(error);
+            let Refusal { number, line } = Refusal::from(error);
             println!(rt; "refused\t{number}\t{line}")?;
         }
     }
@@ -53,20 +53,6 @@ fn read(rt: &(impl Print + AllocGlobal), [o, t, f, p]: [usize; 4], text: &[u8]) 
     list(rt, "targets", &targets)?;
     list(rt, "flags", &flags)?;
     list(rt, "places", &places)
-}
-
-// 01's number of each refusal, and its line.
-fn refusal(error: ReadError) -> (u8, usize) {
-    match error {
-        ReadError::TooLong => (1, 0),
-        ReadError::NoForm { line } => (2, line),
-        ReadError::DeclaredTwice { line } => (3, line),
-        ReadError::NotDeclared { line } => (4, line),
-        ReadError::PairTwice { line } => (5, line),
-        ReadError::NoStateRoom { line } => (6, line),
-        ReadError::NoTransitionRoom { line } => (7, line),
-        ReadError::NoState => (8, 0),
-    }
 }
 
 fn list<T: Display>(rt: &impl Print, name: &str, words: &[T]) -> io::Result<()> {
