@@ -42,11 +42,6 @@ module _ {ℓ} {A : Type ℓ} (f : A → Bool) where
   all_join [] m = refl
   all_join (x ∷ l) m = and_join (f x) (all f l) (all f m) (all f (l ++ m)) (all_join l m)
 
-  pub any_join : (l m : List A) → any f (l ++ m) ≡ (any f l || any f m)
-  unfolding any
-  any_join [] m = refl
-  any_join (x ∷ l) m = or_join (f x) (any f l) (any f m) (any f (l ++ m)) (any_join l m)
-
   -- the test at a place of a list
   pub all_at : (l : List A) → all f l ≡ true → (i : ℕ) (d : A) → i < length l → f (get_or l i d) ≡ true
   unfolding all

@@ -1,7 +1,7 @@
 -- Laws of tests: a test that holds is written `b ≡ true`, and one that fails `b ≡ false`.
-use Rattle.std.proofs.Common.{ℕ, ◌<◌, ◌≤◌, ◌≡◌, refl, sym, ◌∙◌, Bool, true, false, cond, not, ◌&&◌, ◌||◌, ◌⊎◌, inl, inr, ◌≢◌, eqb, ltb, eqb-true, ltb-true}
+use Rattle.std.proofs.Common.{ℕ, ◌<◌, ◌≤◌, ◌≡◌, refl, Bool, true, false, cond, ◌&&◌, ◌||◌, ◌⊎◌, inl, inr, ◌≢◌, eqb, ltb, eqb-true, ltb-true}
 use Rattle.std.proofs.Common.{ltb-false, arith}
-use borrow.Author.Tests.{eqb-false, not-true, not-false}
+use borrow.Author.Tests.{eqb-false}
 
 pub either : (b : Bool) → (b ≡ true) ⊎ (b ≡ false)
 either true = inl refl
@@ -36,13 +36,6 @@ or_inr false b e = e
 pub and_cases : (a b : Bool) → (a && b) ≡ true → (a ≡ true) × (b ≡ true)
 and_cases true b e = (refl, e)
 and_cases false b e = absurd (clash e refl)
-
--- what the arms of `if !f(..)` know of b, where f says that its result is b
-pub if_not : {r b : Bool} → r ≡ b → not r ≡ true → b ≡ false
-if_not {r} e t = sym e ∙ not-true r t
-
-pub if_so : {r b : Bool} → r ≡ b → not r ≡ false → b ≡ true
-if_so {r} e t = sym e ∙ not-false r t
 
 -- what holds of both arms, each under its test, holds of the choice
 pub cond_ind {ℓ κ} : {A : Type ℓ} (Q : A → Type κ) (b : Bool) {x y : A} → (b ≡ true → Q x) → (b ≡ false → Q y) → Q (cond b x y)

@@ -1,10 +1,5 @@
 -- A worker's place and depths, as four words of the room tell them.
-use Prim.Native.Nat.{ℕ, ◌+◌, ◌*◌, ◌<◌}
-use mathlib.Core.Path.{◌≡◌, ◌∙◌}
-use mathlib.Core.List.{List, [], ◌∷◌}
-use lib.ListN.{length, get_or}
-use native.Mathlib.Nat.{add-zero}
-use native.Mathlib.Omega.{arith}
+use Rattle.std.proofs.Common.{ℕ, ◌+◌, ◌*◌, ◌<◌, ◌≡◌, ◌∙◌, List, [], ◌∷◌, length, get_or, add-zero, arith}
 use Rattle.moves.specs.Machine.{Worker, Machine}
 use Rattle.moves.specs.Room.{kind_word, seed_word, stretch_at}
 use Rattle.moves.proofs.Room.{place_words}

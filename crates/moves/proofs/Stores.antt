@@ -1,15 +1,8 @@
 -- What a store makes of the words of a set, of a stack or of counts: the words of the set, the stack or the counts after one change. `stores` holds
 -- the laws for a tactic that meets a function's stores, `reads` what stands at one word.
-use Prim.Native.Nat.{ℕ, suc, ◌+◌, ◌-◌, ◌<◌, ◌≤◌}
-use mathlib.Core.Path.{◌≡◌, refl, sym, ap, ◌∙◌}
-use mathlib.Core.Bool.{Bool, true, false, ◌||◌}
-use mathlib.Core.List.{List, [], ◌∷◌, reverse}
-use lib.Bits.{bit_or}
-use lib.Dec.{eqb}
-use lib.ListN.{length, get_or, set, replicate, length-set, length-append, length-reverse}
-use native.Mathlib.Omega.{arith}
-use native.Mathlib.Numerals.{add-one}
-use borrow.Author.Tests.{ne_eqb}
+use Rattle.std.proofs.Common.{ℕ, suc, ◌+◌, ◌-◌, ◌<◌, ◌≤◌, ◌≡◌, refl, sym, ap, ◌∙◌, Bool, true, false, ◌||◌, List, [], ◌∷◌, reverse, bit_or, eqb, length}
+use Rattle.std.proofs.Common.{get_or, set, replicate, length-set, length-append, arith, add-one, ne_eqb}
+use lib.ListN.{length-reverse}
 use Rattle.graphs.specs.Lists.{upd}
 use Rattle.graphs.proofs.Tab.{tab_long, tab_word, tab_is, tab_upd}
 use Rattle.moves.specs.Machine.{empty}

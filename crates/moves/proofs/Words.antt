@@ -1,13 +1,10 @@
 -- What stands at a word of a stretch and of the room, and what a store there makes of the machine. `Seen` says that a list begins with the form
 -- of a machine of n states and P workers; its words beyond the form are `rest`.
-use Prim.Native.Nat.{ℕ, suc, ◌+◌, ◌-◌, ◌*◌, ◌<◌, ◌≤◌}
-use mathlib.Core.Path.{◌≡◌, refl, ap, ◌∙◌}
-use mathlib.Core.Bool.{Bool, true, false}
-use mathlib.Core.List.{List, [], ◌∷◌, ◌++◌, append_assoc, reverse, reverse-cons}
-use lib.Dec.{eqb}
-use lib.ListN.{length, get_or, set, take, drop, length-append, length-reverse, get_or-append}
-use lib.Seq.{get_or-append-add, get_or_at, take_at, drop_at, set-append_left}
-use native.Mathlib.Omega.{arith}
+use Rattle.std.proofs.Common.{ℕ, suc, ◌+◌, ◌-◌, ◌*◌, ◌<◌, ◌≤◌, ◌≡◌, refl, ap, ◌∙◌, Bool, true, false, List, [], ◌∷◌, ◌++◌, append_assoc, reverse, eqb, length}
+use Rattle.std.proofs.Common.{get_or, set, take, drop, length-append, get_or-append-add, take_at, drop_at, arith}
+use mathlib.Core.List.{reverse-cons}
+use lib.ListN.{length-reverse, get_or-append}
+use lib.Seq.{get_or_at, set-append_left}
 use Rattle.graphs.specs.Lists.{upd, tab}
 use Rattle.graphs.proofs.Tab.{tab_long, tab_word}
 use Rattle.moves.specs.Machine.{Worker, Machine}
