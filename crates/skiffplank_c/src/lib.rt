@@ -8,12 +8,12 @@ ghost use Rattle.text.specs.Lists.{outcome as read·outcome};
 ghost use Rattle.search.specs.Outcomes.{outcome, outcome_to_end};
 ghost use Rattle.skiffplank_c.specs.Answers.{read_call_of, read_call, run_call_of, run_call};
 
-use answers::{read_answer, run_answer, whole};
+use answers::{read_answer, run_answer};
 use moves::Tally;
 
 // What `skiffplank_read` says: refusal 0 is a graph, with its numbers of states and transitions; any other is 01's number, with its line.
 #[repr(C)]
-#[derive(Drop)]
+#[derive(Clone, Copy, Debug, Default, PartialEq, Eq)]
 pub struct ReadAnswer {
     pub refusal: u32,
     pub line: u32,
@@ -24,7 +24,7 @@ pub struct ReadAnswer {
 // What the runs say: refusal 0 is a run, whose answer is 0 for "undecided", 1 for "cycle" (with the lengths of stem and loop) and 2 for "none", and the
 // turns that it used; any other refusal is 01's number.
 #[repr(C)]
-#[derive(Drop)]
+#[derive(Clone, Copy, Debug, Default, PartialEq, Eq)]
 pub struct RunAnswer {
     pub refusal: u32,
     pub answer: u32,
@@ -73,7 +73,7 @@ pub extern "C" fn skiffplank_run(
         offsets,
         targets,
         flags,
-        whole(workers),
+        workers as usize,
     );
     run_answer(outcome)
 }
@@ -93,6 +93,6 @@ pub extern "C" fn skiffplank_run_to_end(
         ≡ run_call (outcome_to_end offsets.now targets.now flags.now workers
         room.old lasso.old tally.old) }
 {
-    let outcome = search::run_to_end(room, lasso, tally, offsets, targets, flags, whole(workers));
+    let outcome = search::run_to_end(room, lasso, tally, offsets, targets, flags, workers as usize);
     run_answer(outcome)
 }

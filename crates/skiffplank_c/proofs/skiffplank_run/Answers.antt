@@ -3,4 +3,4 @@ use Rattle.skiffplank_c.proofs.Told.{run_fits}
 use Rattle.skiffplank_c.proofs.skiffplank_run.Goals as goal
 
 pub run_answer-requires : goal.run_answer-requires
-run_answer-requires c = run_fits _ _ _ _ _ _ _ _ _ c.whole.ensures _ _ _ _ c.run-outcome.ensures
+run_answer-requires c = run_fits _ _ _ _ _ _ _ _ _ _ _ _ c.run-outcome.ensures
