@@ -1,5 +1,5 @@
 -- Laws of `same`, `all` and `any`: tests of lists, word by word.
-use Rattle.std.proofs.Common.{ℕ, zero, suc, ◌<◌, ◌≡◌, refl, Bool, true, false, ◌&&◌, ◌||◌, List, [], ◌∷◌, ◌++◌, ◌≢◌, eqb, length, get_or, eqb-true, eq-eqb}
+use Rattle.std.proofs.Common.{ℕ, zero, suc, ◌<◌, ◌≡◌, refl, Bool, true, false, ◌&&◌, List, [], ◌∷◌, ◌++◌, ◌≢◌, eqb, length, get_or, eqb-true, eq-eqb}
 use Rattle.std.proofs.Common.{arith}
 use Rattle.graphs.specs.Lists.{same, all, any}
 use Rattle.graphs.proofs.Tests.{and_cases, clash, not_both, or_left, or_right}
@@ -30,10 +30,6 @@ ne_same l m ne = not_both (λ e. ne (same_eq l m e))
 and_join : (a b c d : Bool) → d ≡ (b && c) → (a && d) ≡ ((a && b) && c)
 and_join true b c d e = e
 and_join false b c d e = refl
-
-or_join : (a b c d : Bool) → d ≡ (b || c) → (a || d) ≡ ((a || b) || c)
-or_join true b c d e = refl
-or_join false b c d e = e
 
 -- a test of the members of a joined list
 module _ {ℓ} {A : Type ℓ} (f : A → Bool) where

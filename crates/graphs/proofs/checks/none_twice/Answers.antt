@@ -1,5 +1,5 @@
 -- `none_twice` meets its contract. No state before s has a target twice, and no stamp in the table is above s.
-use Rattle.std.proofs.Common.{rules, sym, refl, arith, not}
+use Rattle.std.proofs.Common.{ℕ, Bool, rules, sym, refl, arith, not}
 use Rattle.graphs.specs.Lists.{every, repeats}
 use Rattle.graphs.specs.Words.{most_states, none_twice, successors}
 use Rattle.graphs.proofs.Every.{every_not}
@@ -18,4 +18,6 @@ stamp_all-requires c = record {
 
 pub returns-then-not-stamp_all : goal.returns-then-not-stamp_all
 unfolding none_twice successors
-returns-then-not-stamp_all c = sym (every_not c.args.n (λ s. not (repeats (successors c.args.offsets.now c.args.targets.now s))) c.loop-s.s (omega arith) (search rules))
+returns-then-not-stamp_all c =
+    let once : ℕ → Bool = λ s. not (repeats (successors c.args.offsets.now c.args.targets.now s)) in
+    sym (every_not c.args.n once c.loop-s.s (omega arith) (search rules))

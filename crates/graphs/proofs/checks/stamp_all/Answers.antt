@@ -12,23 +12,26 @@ loop-target-init c = record {
 
 pub returns-then-table-t : goal.returns-then-table-t
 unfolding stamped
-returns-then-table-t c = record {
-  answer = sym (unseen_hit _ _ c.loop-target.target-index c.loop-target-test.true (eq-eqb _ _ (rw c.from-t.ensures at c.if-table-t.true))) ∙ c.loop-target.invariant.rest;
-  used = c.loop-target.invariant.low;
-}
+returns-then-table-t c =
+    let i = c.loop-target.target-index in
+    record {
+      answer = sym (unseen_hit _ _ i c.loop-target-test.true (eq-eqb _ _ (rw c.from-t.ensures at c.if-table-t.true))) ∙ c.loop-target.invariant.rest;
+      used = c.loop-target.invariant.low;
+    }
 
 pub loop-target-preserved : goal.loop-target-preserved
 unfolding stamped
 loop-target-preserved c =
-    let t = get_or c.args.targets.now c.loop-target.target-index 0 in
-    let here : t < length c.loop-target.table = omega (arith, c.requires.inside c.loop-target.target-index c.loop-target-test.true, c.loop-target.invariant.long) in
-    let left = drop (c.loop-target.target-index + 1) c.args.targets.now in
+    let i = c.loop-target.target-index in
+    let t = get_or c.args.targets.now i 0 in
+    let here : t < length c.loop-target.table = omega (arith, c.requires.inside i c.loop-target-test.true, c.loop-target.invariant.long) in
+    let left = drop (i + 1) c.args.targets.now in
     record {
       long = search rules;
       rest =
           ap (λ j. unseen (stamped (set c.loop-target.table j c.args.stamp) c.args.stamp) left) c.from-t.ensures
           ∙ ap (λ seen. unseen seen left) (stamped_set c.loop-target.table c.args.stamp t here)
-          ∙ sym (unseen_step _ _ c.loop-target.target-index c.loop-target-test.true (ne_eqb _ _ (rw c.from-t.ensures at c.if-table-t.false)))
+          ∙ sym (unseen_step _ _ i c.loop-target-test.true (ne_eqb _ _ (rw c.from-t.ensures at c.if-table-t.false)))
           ∙ c.loop-target.invariant.rest;
       low = set_bound c.loop-target.table c.from-t.result c.args.stamp _ (omega arith) c.loop-target.invariant.low;
     }
