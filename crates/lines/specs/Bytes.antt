@@ -1,22 +1,22 @@
 -- The kinds of bytes. 01: "The reader sorts bytes by a table of 256 byte kinds (upper, lower, digit, mark, tab, line feed, other)".
-use Rattle.std.specs.Prelude.{ℕ, Bool, true, false, cond, ◌&&◌, ◌||◌, List, eqb, leb}
+use Rattle.std.specs.Prelude.{ℕ, Bool, true, false, if◌then◌else◌, ◌&&◌, ◌||◌, List, ◌==◌, nat_le}
 use Rattle.graphs.specs.Lists as lists
 use Rattle.lines.specs.declared.kinds.Kind.{Kind}
 use Rattle.lines.specs.declared.kinds.Kind.TheVariants.{Upper, Lower, Digit, Mark, Tab, LineFeed, Other}
 
 unfoldable pub between : ℕ → ℕ → ℕ → Bool
-between low high x = leb low x && leb x high
+between low high x = nat_le low x && nat_le x high
 
 -- 01: "A–Z, a–z, 0–9, `-`, `_`, `.`"
 unfoldable pub kind_of : ℕ → Kind
 kind_of b =
-    cond (between 65 90 b) Upper
-    (cond (between 97 122 b) Lower
-    (cond (between 48 57 b) Digit
-    (cond (eqb b 45 || eqb b 95 || eqb b 46) Mark
-    (cond (eqb b 9) Tab
-    (cond (eqb b 10) LineFeed
-    Other)))))
+    if between 65 90 b then Upper
+    else if between 97 122 b then Lower
+    else if between 48 57 b then Digit
+    else if b == 45 || b == 95 || b == 46 then Mark
+    else if b == 9 then Tab
+    else if b == 10 then LineFeed
+    else Other
 
 -- the kinds of a label's bytes
 abbrev pub of_label : Kind → Bool

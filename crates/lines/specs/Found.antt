@@ -1,6 +1,6 @@
 -- What the functions of src/ find in a text from a place on. A label is handed on as its length and two words, which are its first eight bytes
 -- and the rest of them, read as numbers in base 256. Labels have no byte 0, so different labels have different words (`words_differ`).
-use Rattle.std.specs.Prelude.{ℕ, ◌+◌, ◌*◌, Bool, cond, ◌&&◌, List, [], ◌∷◌, Option, Some, None, ltb, length, get_or, take, drop}
+use Rattle.std.specs.Prelude.{ℕ, ◌+◌, ◌*◌, Bool, if◌then◌else◌, ◌&&◌, List, [], ◌∷◌, Option, Some, None, nat_lt, length, get_or, take, drop}
 use Rattle.lines.specs.Line.{pieces, field, is_state, is_transition, flag_of}
 use Rattle.lines.specs.declared.Label.{Label}
 use Rattle.lines.specs.declared.StateLine.{StateLine}
@@ -25,7 +25,7 @@ unfoldable pub first_line : List ℕ → List ℕ
 first_line left = get_or (pieces left) 0 []
 
 unfoldable pub ended : List ℕ → Bool
-ended left = ltb 1 (length (pieces left))
+ended left = nat_lt 1 (length (pieces left))
 
 -- where the line after it starts
 abbrev pub past_line : ℕ → List ℕ → ℕ
@@ -35,13 +35,12 @@ past_line at line = at + length line + 1
 unfoldable pub state_found : ℕ → List ℕ → Option StateLine
 state_found at left =
     let line = first_line left in
-    cond (ended left && is_state line)
-    (Some (record { label = label_of (field 1 line); flag = flag_of line; next = past_line at line }))
-    None
+    if ended left && is_state line then Some (record { label = label_of (field 1 line); flag = flag_of line; next = past_line at line })
+    else None
 
 unfoldable pub transition_found : ℕ → List ℕ → Option TransitionLine
 transition_found at left =
     let line = first_line left in
-    cond (ended left && is_transition line)
-    (Some (record { from = label_of (field 1 line); to = label_of (field 2 line); next = past_line at line }))
-    None
+    if ended left && is_transition line
+    then Some (record { from = label_of (field 1 line); to = label_of (field 2 line); next = past_line at line })
+    else None

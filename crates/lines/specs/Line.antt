@@ -1,6 +1,6 @@
 -- Labels, and the two forms of a line. A text, a line and a label are lists of bytes. 01: "One record a line, fields parted by one tab, each line
 -- ended by a line feed, the last too."
-use Rattle.std.specs.Prelude.{ℕ, Bool, cond, ◌&&◌, ◌||◌, List, [], ◌∷◌, eqb, length, get_or}
+use Rattle.std.specs.Prelude.{ℕ, Bool, if◌then◌else◌, ◌&&◌, ◌||◌, List, [], ◌∷◌, ◌==◌, length, get_or}
 use Rattle.graphs.specs.Lists.{all, same}
 use Rattle.lines.specs.Bytes.{between, in_label}
 
@@ -12,7 +12,7 @@ onto b (piece ∷ pieces) = (b ∷ piece) ∷ pieces
 unfoldable pub cut : ℕ → List ℕ → List (List ℕ)
 unfolding onto
 cut c [] = [] ∷ []
-cut c (b ∷ l) = cond (eqb b c) ([] ∷ cut c l) (onto b (cut c l))
+cut c (b ∷ l) = if b == c then [] ∷ cut c l else onto b (cut c l)
 
 -- the pieces of a text between its line feeds: its lines, and what stands after the last line feed; the fields of a line
 abbrev pub pieces : List ℕ → List (List ℕ)
@@ -44,7 +44,7 @@ plain = 45 ∷ []
 -- 01: "`S→label→flag`: a state; flag `a` (accepting) or `-`"
 unfoldable pub is_state : List ℕ → Bool
 is_state line =
-    eqb (length (fields line)) 3
+    length (fields line) == 3
     && same (field 0 line) S
     && is_label (field 1 line)
     && (same (field 2 line) accepting || same (field 2 line) plain)
@@ -52,11 +52,11 @@ is_state line =
 -- 01: "`T→label→label`: a transition, from and to"
 unfoldable pub is_transition : List ℕ → Bool
 is_transition line =
-    eqb (length (fields line)) 3
+    length (fields line) == 3
     && same (field 0 line) T
     && is_label (field 1 line)
     && is_label (field 2 line)
 
 -- the flag's word: 1 for `a`, 0 for `-`
 unfoldable pub flag_of : List ℕ → ℕ
-flag_of line = cond (same (field 2 line) accepting) 1 0
+flag_of line = if same (field 2 line) accepting then 1 else 0

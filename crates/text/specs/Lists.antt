@@ -1,6 +1,6 @@
 -- The four lists and the answer that a reading gives: 01 "The reader fills four lent lists". A lent list is known by its length; what stood in it
 -- before does not count.
-use Rattle.std.specs.Prelude.{ℕ, zero, suc, ◌-◌, ◌/◌, min, cond, List, [], ◌∷◌, ◌++◌, map, eqb, length, replicate}
+use Rattle.std.specs.Prelude.{ℕ, zero, suc, ◌-◌, ◌/◌, min, if◌then◌else◌, List, [], ◌∷◌, ◌++◌, map, ◌==◌, length, replicate}
 use Rattle.graphs.specs.Lists.{tab}
 use Rattle.graphs.specs.Words.{most_states, most_transitions}
 use Rattle.text.specs.Text.{State, Transition, Rooms, Meaning, reads, refused, meaning}
@@ -23,7 +23,7 @@ flags_of states = map (λ s. s.flag) states
 -- 01: "The successors of a state come in the order of its T lines"
 unfoldable pub targets_from : ℕ → List Transition → List ℕ
 targets_from s [] = []
-targets_from s (t ∷ transitions) = cond (eqb t.from s) (t.to ∷ targets_from s transitions) (targets_from s transitions)
+targets_from s (t ∷ transitions) = if t.from == s then t.to ∷ targets_from s transitions else targets_from s transitions
 
 -- the targets of the first n states, joined
 unfoldable pub targets_of : ℕ → List Transition → List ℕ

@@ -1,6 +1,6 @@
 -- The meaning of a text: line by line, the states and the transitions that it lists, or the first refusal with its line. 01 "The text" and
 -- "Numbers refused", 1 to 8. A text, a line and a label are lists of bytes.
-use Rattle.std.specs.Prelude.{ℕ, suc, ◌+◌, Bool, true, false, cond, not, ◌&&◌, List, [], ◌∷◌, ◌++◌, eqb, leb, ltb, length}
+use Rattle.std.specs.Prelude.{ℕ, suc, ◌+◌, Bool, true, false, if◌then◌else◌, not, ◌&&◌, List, [], ◌∷◌, ◌++◌, ◌==◌, nat_le, nat_lt, length}
 use Rattle.graphs.specs.Lists.{any, same}
 use Rattle.lines.specs.Line.{pieces, field, is_state, is_transition, flag_of}
 
@@ -43,14 +43,14 @@ declared label states = any (λ s. same label s.label) states
 -- 01: "States are numbered from 0 in S order"
 unfoldable pub number_of : List ℕ → List State → ℕ
 number_of label [] = 0
-number_of label (s ∷ states) = cond (same label s.label) 0 (suc (number_of label states))
+number_of label (s ∷ states) = if same label s.label then 0 else suc (number_of label states)
 
 unfoldable pub transition_of : List ℕ → List State → Transition
 transition_of line states = record { from = number_of (field 1 line) states; to = number_of (field 2 line) states }
 
 -- the same pair stood before
 unfoldable pub stood : Transition → List Transition → Bool
-stood t transitions = any (λ u. eqb u.from t.from && eqb u.to t.to) transitions
+stood t transitions = any (λ u. u.from == t.from && u.to == t.to) transitions
 
 -- what was read once this line was: two bytes, `S` and a tab, stand before a state's label
 unfoldable pub with_state : List ℕ → Seen → Seen
@@ -74,24 +74,24 @@ with_transition line seen =
 -- 01: "within an S line 2, 3, 6"; an S line that follows a T line is refused as 2
 unfoldable pub state_line : Rooms → List ℕ → Seen → Meaning
 state_line rooms line seen =
-    cond (not (is_nil seen.transitions)) (refused 2 seen.line)
-    (cond (declared (field 1 line) seen.states) (refused 3 seen.line)
-    (cond (leb rooms.for_states (length seen.states)) (refused 6 seen.line)
-    (reads (with_state line seen))))
+    if not (is_nil seen.transitions) then refused 2 seen.line
+    else if declared (field 1 line) seen.states then refused 3 seen.line
+    else if nat_le rooms.for_states (length seen.states) then refused 6 seen.line
+    else reads (with_state line seen)
 
 -- 01: "within a T line 2, 4, 5, 7"
 unfoldable pub transition_line : Rooms → List ℕ → Seen → Meaning
 transition_line rooms line seen =
-    cond (not (declared (field 1 line) seen.states && declared (field 2 line) seen.states)) (refused 4 seen.line)
-    (cond (stood (transition_of line seen.states) seen.transitions) (refused 5 seen.line)
-    (cond (leb rooms.for_transitions (length seen.transitions)) (refused 7 seen.line)
-    (reads (with_transition line seen))))
+    if not (declared (field 1 line) seen.states && declared (field 2 line) seen.states) then refused 4 seen.line
+    else if stood (transition_of line seen.states) seen.transitions then refused 5 seen.line
+    else if nat_le rooms.for_transitions (length seen.transitions) then refused 7 seen.line
+    else reads (with_transition line seen)
 
 unfoldable pub one_line : Rooms → List ℕ → Seen → Meaning
 one_line rooms line seen =
-    cond (is_state line) (state_line rooms line seen)
-    (cond (is_transition line) (transition_line rooms line seen)
-    (refused 2 seen.line))
+    if is_state line then state_line rooms line seen
+    else if is_transition line then transition_line rooms line seen
+    else refused 2 seen.line
 
 -- 01: "The first refused line ends the reading."
 abbrev pub then_on : Meaning → (Seen → Meaning) → Meaning
@@ -101,9 +101,9 @@ then_on (refused number line) more = refused number line
 -- the end of the text: a last line without its line feed is refused as 2, and no S line as 8
 unfoldable pub at_end : List ℕ → Seen → Meaning
 at_end rest seen =
-    cond (not (is_nil rest)) (refused 2 seen.line)
-    (cond (is_nil seen.states) (refused 8 0)
-    (reads seen))
+    if not (is_nil rest) then refused 2 seen.line
+    else if is_nil seen.states then refused 8 0
+    else reads seen
 
 -- the lines of a text and, last, what stands after its last line feed
 unfoldable pub read_lines : Rooms → List (List ℕ) → Seen → Meaning
@@ -120,4 +120,4 @@ most_text = 1048576
 
 -- 01: "Order: 1 first; then line by line ..; then 8"
 unfoldable pub meaning : Rooms → List ℕ → Meaning
-meaning rooms text = cond (ltb most_text (length text)) (refused 1 0) (read_lines rooms (pieces text) nothing)
+meaning rooms text = if nat_lt most_text (length text) then refused 1 0 else read_lines rooms (pieces text) nothing
