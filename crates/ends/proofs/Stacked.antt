@@ -1,4 +1,4 @@
--- What `Stacked` says of the numbers that the code reads, w for the worker and the depths of its stacks; and that two copies make of the lasso room
+-- What `Stacked` says of the depths of the stacks that the code reads; and that two copies make of the lasso room
 -- what `lasso_in` says.
 use Prim.Native.Nat.{ℕ, ◌+◌, ◌-◌, ◌*◌, ◌<◌, ◌≤◌}
 use mathlib.Core.Path.{◌≡◌, refl}
@@ -13,14 +13,6 @@ use Rattle.ends.specs.declared.Outcome.TheVariants.{Cycle}
 use Rattle.ends.specs.Lasso.{Stacked, outer_depth, inner_depth, place_down, lasso_in, found_in}
 use Rattle.ends.proofs.Down.{place_in}
 
-pub record Bounds (n w outer inner : ℕ) (l lasso : List ℕ) : Type 0 where
-  pub few : n ≤ 4096
-  pub inside : stretch_at n w + stretch n ≤ length l
-  pub outer_fits : outer ≤ n
-  pub inner_fits : inner ≤ n
-  pub seeded : 0 < inner
-  pub lasso_fits : 2 * n ≤ length lasso
-
 -- x words are copied to the front, and y after them
 copied_twice : (front next lasso : List ℕ) (x y : ℕ) → length front ≡ x
     → put_mid x (x + y - x) (front ++ drop x lasso) next ≡ front ++ (next ++ drop (x + y) lasso)
@@ -29,17 +21,6 @@ copied_twice front next lasso x y e =
 
 module _ {n : ℕ} (p : ℕ) {l lasso : List ℕ} (stacked : Stacked n (stretch_at n p) l lasso) where
   module _ {outer inner : ℕ} (o : outer ≡ outer_depth n (stretch_at n p) l) (i : inner ≡ inner_depth n (stretch_at n p) l) where
-    pub stacked_bounds : Bounds n p outer inner l lasso
-    stacked_bounds =
-        record {
-          few = stacked.few;
-          inside = stacked.inside;
-          outer_fits = rw o stacked.outer_fits;
-          inner_fits = rw i stacked.inner_fits;
-          seeded = rw i stacked.seeded;
-          lasso_fits = stacked.lasso_fits;
-        }
-
     abbrev outer_at : ℕ
     outer_at = stretch_at n p + 2 * n
 
@@ -53,7 +34,9 @@ module _ {n : ℕ} (p : ℕ) {l lasso : List ℕ} (stacked : Stacked n (stretch_
     inner_part = take (inner_at + (inner - 1) - inner_at) (drop inner_at l)
 
     outer_long : length outer_part ≡ outer
-    outer_long = let bounds = stacked_bounds in simp (length-take, length-drop) (omega (arith, bounds.inside, bounds.outer_fits))
+    outer_long =
+        let fits : outer ≤ n = rw o stacked.outer_fits in
+        simp (length-take, length-drop) (omega (arith, stacked.inside, fits))
 
     pub stacked_stem : (x : ℕ) {stem : ℕ} → stem ≡ place_down (length outer_part) x outer_part → stem ≤ outer
     stacked_stem x s = rw outer_long at (place_in x outer_part s)

@@ -1,4 +1,4 @@
--- Laws of `refusal_of`: no refusal means that all five checks passed; and the numbers are 9 to 13, each told as itself.
+-- Laws of `refusal_of`: no refusal means that all five checks passed; and what `check` and `Plan::fits` rest on.
 use Prim.Native.Nat.{ℕ, suc, ◌*◌, ◌<◌, ◌≤◌}
 use mathlib.Core.Path.{◌≡◌, refl, sym}
 use mathlib.Core.Bool.{Bool, true, false, cond, not}
@@ -30,14 +30,6 @@ all_passed true true false d e h = absurd (omega arith)
 all_passed true true true false e h = absurd (omega arith)
 all_passed true true true true false h = absurd (omega arith)
 all_passed true true true true true h = (refl, refl, refl, refl, refl)
-
-first_low : (a b c d e : Bool) → (first_of a b c d e ≡ 0) ⊎ ((9 ≤ first_of a b c d e) × (first_of a b c d e ≤ 13))
-first_low false b c d e = inr (omega arith, omega arith)
-first_low true false c d e = inr (omega arith, omega arith)
-first_low true true false d e = inr (omega arith, omega arith)
-first_low true true true false e = inr (omega arith, omega arith)
-first_low true true true true false = inr (omega arith, omega arith)
-first_low true true true true true = inl refl
 
 pub workers_few : (P : ℕ) → workers_fit P ≡ true → (0 < P) × (P ≤ most_workers)
 workers_few P t = let parts = and_cases _ _ t in (leb-true 1 P parts.0, leb-true P most_workers parts.1)
@@ -83,12 +75,6 @@ module _ (room lasso : ℕ) (turns offsets targets flags : List ℕ) (P : ℕ) w
         lasso_fits = leb-true _ _ passed.3;
         named = turns_named turns P passed.4;
       }
-
-  pub refusal_low :
-      (refusal_of room lasso turns offsets targets flags P ≡ 0)
-      ⊎ ((9 ≤ refusal_of room lasso turns offsets targets flags P) × (refusal_of room lasso turns offsets targets flags P ≤ 13))
-  unfolding refusal_of
-  refusal_low = first_low a b c d e
 
 -- what `check` knows where it asks for the room's size
 pub few_workers : (P : ℕ) → workers_fit P ≡ true → P ≤ most_workers

@@ -27,7 +27,7 @@ impl RunError {
 }
 
 // Which worker makes each turn.
-#[derive(Clone, Copy)]
+#[derive(Clone, Copy, Debug, PartialEq, Eq)]
 pub enum Plan<'a> {
     // the workers of this list, one after the other
     Turns(&'a [u8]),
@@ -114,8 +114,5 @@ pub fn check<'a>(
 pub fn usual(workers: usize) -> usize
     ensures { result ≡ usual workers }
 {
-    if workers == 0 {
-        return 2;
-    }
-    workers
+    if workers == 0 { 2 } else { workers }
 }

@@ -55,6 +55,11 @@ pub record Along (offsets targets flags turns : List ℕ) (P : ℕ) (rest : List
   pub form : l ≡ room (length flags) P (after offsets targets flags turns P used).machine ++ rest
   pub tally : t ≡ (after offsets targets flags turns P used).tally
 
+-- a turn of the list is left, and it is worker p's
+pub record Left (turns : List ℕ) (used p : ℕ) : Type 0 where
+  pub within : used < length turns
+  pub is : p ≡ get_or turns used 0
+
 module _ {offsets targets flags : List ℕ} {P : ℕ} (held : Held offsets targets flags P) where
   rounds_few : length (turns_of Rounds offsets targets flags P) < 2 ^ 64
   rounds_few =
@@ -106,33 +111,29 @@ module _ {offsets targets flags turns : List ℕ} {P : ℕ} {rest : List ℕ} {u
   pub formed : Formed offsets targets flags P r.machine rest l
   formed = record { form = x.form; inv = (rw x.no_answer at stands).0 }
 
-  -- there is a turn left, and it is p's
-  module _ {p : ℕ} (left : used < length turns) (is : p ≡ get_or turns used 0) where
+  module _ {p : ℕ} (left : Left turns used p) where
     pub named_next : p < P
-    named_next = rw is (x.named (get_or turns used 0) (drop_mem used turns _ _ (drop-cons turns used 0 left)))
+    named_next = rw left.is (x.named (get_or turns used 0) (drop_mem used turns _ _ (drop-cons turns used 0 left.within)))
 
     low : Low t
     low =
         let counts = tally_low g P (take used turns) in
         rw x.tally
         (record {
-          outer_low = omega (arith, counts.outer_low, x.all_used, left, x.few);
-          inner_low = omega (arith, counts.inner_low, x.all_used, left, x.few);
-          waits_low = omega (arith, counts.waits_low, x.all_used, left, x.few);
-          moves_low = omega (arith, counts.moves_low, x.all_used, left, x.few);
+          outer_low = omega (arith, counts.outer_low, x.all_used, left.within, x.few);
+          inner_low = omega (arith, counts.inner_low, x.all_used, left.within, x.few);
+          waits_low = omega (arith, counts.waits_low, x.all_used, left.within, x.few);
+          moves_low = omega (arith, counts.moves_low, x.all_used, left.within, x.few);
         })
 
     pub due : Due offsets targets flags P p l t
     due = record { held = x.held; named = named_next; machine = r.machine; rest = rest; formed = formed; low = low }
 
-    pub countable : used + 1 < 2 ^ 64
-    countable = omega (arith, x.few)
-
     abbrev r' : Result
     r' = after offsets targets flags turns P (used + 1)
 
     pub one_turn : r' ≡ next P p r (turn g p r.machine)
-    one_turn = rw (add-one, take-suc turns used 0 left, ← is) (each_turn_moves g P (take used turns) p x.no_answer)
+    one_turn = rw (add-one, take-suc turns used 0 left.within, ← left.is) (each_turn_moves g P (take used turns) p x.no_answer)
 
     -- the turn was made
     module _ {v : Option Verdict} {l' : List ℕ} {t' : Tally} (steps : Steps offsets targets flags P p l t v l' t') where
@@ -159,7 +160,7 @@ module _ {offsets targets flags turns : List ℕ} {P : ℕ} {rest : List ℕ} {u
             held = x.held;
             named = x.named;
             few = x.few;
-            inside = omega (arith, left);
+            inside = omega (arith, left.within);
             all_used = used_after;
             no_answer = answer_after ∙ ap (answer_of r'.machine p) e;
             form = form_after;
@@ -189,18 +190,19 @@ module _ {offsets targets flags : List ℕ} {P : ℕ} {rest : List ℕ} {used : 
           let d = end_decides (graph_of offsets targets flags) P (graph_of_words offsets targets flags x.held.graph) x.held.some in
           absurd (rw (← all_made, x.no_answer) at d)
 
-  pub next_left : (plan : Plan) → Along offsets targets flags (turns_of plan offsets targets flags P) P rest used l t
-      → {p : ℕ} → next_in plan P used ≡ Some p → used < length (turns_of plan offsets targets flags P)
-  next_left (Turns turns) x {p} e = slice_get_within turns.now used p e
-  next_left Rounds x e = rounds_left x
-
-  pub next_is : (plan : Plan) → Along offsets targets flags (turns_of plan offsets targets flags P) P rest used l t
-      → {p : ℕ} → next_in plan P used ≡ Some p → p ≡ get_or (turns_of plan offsets targets flags P) used 0
-  next_is (Turns turns) x {p} e = sym (get_or_from_slice_get turns.now used p 0 e)
-  next_is Rounds x {p} e =
-      let most = most_moves (graph_of offsets targets flags) P in
-      let worker : used % P ≡ p = cc in
-      sym worker ∙ sym (rounds_at P most used (omega (arith, rounds_left x, rounds_long P most)))
+  pub next_left : (plan : Plan) → Along offsets targets flags (turns_of plan offsets targets flags P) P rest used l t → {p : ℕ} {o : Option ℕ}
+      → o ≡ next_in plan P used → o ≡ Some p → Left (turns_of plan offsets targets flags P) used p
+  next_left plan x {p} a b = go plan x (sym a ∙ b)
+    where
+      go : (plan : Plan) → Along offsets targets flags (turns_of plan offsets targets flags P) P rest used l t → next_in plan P used ≡ Some p
+          → Left (turns_of plan offsets targets flags P) used p
+      go (Turns turns) x e =
+          record { within = slice_get_within turns.now used p e; is = sym (get_or_from_slice_get turns.now used p 0 e) }
+      go Rounds x e =
+          let most = most_moves (graph_of offsets targets flags) P in
+          let worker : used % P ≡ p = cc in
+          let within = rounds_left x in
+          record { within = within; is = sym worker ∙ sym (rounds_at P most used (omega (arith, within, rounds_long P most))) }
 
 pub none_left : (offsets targets flags : List ℕ) (P used : ℕ) (plan : Plan) → next_in plan P used ≡ None
     → length (turns_of plan offsets targets flags P) ≤ used

@@ -41,7 +41,7 @@ use Rattle.ends.specs.Told.{told, told_refusal, tells_of, shown}
 use Rattle.ends.proofs.Shown.{shown_words, found_told, stacked_fits}
 use Rattle.search.specs.Outcomes.{Lent, lent, left, unless}
 use Rattle.search.specs.Plans.{turns_of, outcome_by}
-use Rattle.search.proofs.Along.{after, Along, along_start, formed, named_next, one_turn, stepped, used_after, answer_after, form_after, tally_after, whole_after}
+use Rattle.search.proofs.Along.{after, Along, Left, along_start, formed, named_next, one_turn, stepped, used_after, answer_after, form_after, tally_after, whole_after}
 
 -- what a refused run leaves, and what comes of `unless` either way
 abbrev pub refused_with : ℕ → List ℕ → List ℕ → Tally → Lent
@@ -127,22 +127,22 @@ module _ {words : Graph·rust} {offsets targets flags : List ℕ} {P : ℕ} (l l
         left_is t (Undecided used) result (ap (run g P) (take_all used turns h)) (rw (x.no_answer, x.all_used) refl) (rw x.no_answer refl) x.form x.tally
 
     -- p's turn brought an answer
-    module _ {p : ℕ} (h : used < length turns) (is : p ≡ get_or turns used 0) {v : Option Verdict} {l₂ : List ℕ} {t₂ : Tally}
+    module _ {p : ℕ} (turn_left : Left turns used p) {v : Option Verdict} {l₂ : List ℕ} {t₂ : Tally}
         (steps : Steps words.offsets.now words.targets.now words.flags.now P p l₁ t₁ v l₂ t₂) where
       abbrev result : Result
       result = after words.offsets.now words.targets.now words.flags.now turns P (used + 1)
 
       pub left_quiet : v ≡ Some Quiet → lent (Ok (None·told (used + 1))) l₂ lasso t₂ ≡ outcome_by plan offsets targets flags P l lasso t
       left_quiet e =
-          let answer : result.answer ≡ none = answer_after x h is steps ∙ ap (answer_of result.machine p) e in
-          left_is t (None·told (used + 1)) result (whole_after x h is steps (rw answer tt)) (rw (answer, used_after x h is steps) refl) (rw answer refl)
-          (form_after x h is steps) (tally_after x h is steps)
+          let answer : result.answer ≡ none = answer_after x turn_left steps ∙ ap (answer_of result.machine p) e in
+          left_is t (None·told (used + 1)) result (whole_after x turn_left steps (rw answer tt)) (rw (answer, used_after x turn_left steps) refl) (rw answer refl)
+          (form_after x turn_left steps) (tally_after x turn_left steps)
 
       seen : Seen n P result.machine beyond l₂
       unfolding graph_of graph
       seen =
           record {
-            form = form_after x h is steps;
+            form = form_after x turn_left steps;
             fits =
                 run_fits g P (graph_of_words words.offsets.now words.targets.now words.flags.now held.graph) held.some (take (used + 1) turns)
                 (λ q m. x.named q (mem_take q (used + 1) turns m));
@@ -157,19 +157,19 @@ module _ {words : Graph·rust} {offsets targets flags : List ℕ} {P : ℕ} (l l
             let before = after words.offsets.now words.targets.now words.flags.now turns P used in
             let made = turn g p before.machine in
             let found = verdict_deep (obeys g p before.machine ((formed x).inv.local p)) (all_done P made.machine) in
-            subst (λ k. 0 < length (k.machine.worker p).inner) (sym (one_turn x h is)) (rw (← (stepped x h is steps).verdict, e) at found)
+            subst (λ k. 0 < length (k.machine.worker p).inner) (sym (one_turn x turn_left)) (rw (← (stepped x turn_left steps).verdict, e) at found)
 
         pub stacked : Stacked n (stretch_at n p) l₂ lasso
-        stacked = stacked_fits n P p (named_next x h is) result.machine beyond l₂ seen lasso few_states lasso_fits deep
+        stacked = stacked_fits n P p (named_next x turn_left) result.machine beyond l₂ seen lasso few_states lasso_fits deep
 
         pub left_found : (r : Outcome) {lasso' : List ℕ} → lasso' ≡ lasso_in n (stretch_at n p) l₂ lasso
             → r ≡ found_in n (stretch_at n p) s (used + 1) l₂ → lent (Ok r) l₂ lasso' t₂ ≡ outcome_by plan offsets targets flags P l lasso t
         left_found r shows tells =
-            let answer : result.answer ≡ cycle (stem_of w s) (loop_of w s) = answer_after x h is steps ∙ ap (answer_of result.machine p) e in
-            let named = named_next x h is in
-            left_is t r result (whole_after x h is steps (rw answer tt))
+            let answer : result.answer ≡ cycle (stem_of w s) (loop_of w s) = answer_after x turn_left steps ∙ ap (answer_of result.machine p) e in
+            let named = named_next x turn_left in
+            left_is t r result (whole_after x turn_left steps (rw answer tt))
             (ap (λ k. told (Ok k)) tells ∙ found_told n P p named result.machine beyond l₂ seen s (used + 1)
             ∙ sym (ap (λ a. tells_of a (used + 1)) answer)
-            ∙ sym (ap (tells_of result.answer) (used_after x h is steps)))
+            ∙ sym (ap (tells_of result.answer) (used_after x turn_left steps)))
             (shows ∙ shown_words n P p named result.machine beyond l₂ seen s lasso ∙ sym (ap (λ a. shown a lasso) answer))
-            (form_after x h is steps) (tally_after x h is steps)
+            (form_after x turn_left steps) (tally_after x turn_left steps)

@@ -38,13 +38,10 @@ fn verdict_after(room: &[u16], n: usize, workers: usize, made: Move) -> Option<V
     requires { room_size n workers ≤ length room.now }
     ensures { result ≡ verdict_in n workers made room.now }
 {
-    if let Move::Hit(_, state) = made {
-        return Some(Verdict::Found { state });
+    match made {
+        Move::Hit(_, state) => Some(Verdict::Found { state }),
+        _ => all_done(room, n, workers).then_some(Verdict::Quiet),
     }
-    if all_done(room, n, workers) {
-        return Some(Verdict::Quiet);
-    }
-    None
 }
 
 // Makes worker p's move.

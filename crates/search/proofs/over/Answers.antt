@@ -1,7 +1,7 @@
 -- A run by a plan: what is asked before the first turn and at each one, by `Passed` and `Along`; and what is left, by the laws of `Whole`.
 use Rattle.std.proofs.Common.{◌≡◌, arith, rules, refl, sym, ◌∙◌}
 use Rattle.moves.specs.Tally.{zeroes}
-use Rattle.search.proofs.Along.{next_left, next_is, none_left, due, countable, along_more}
+use Rattle.search.proofs.Along.{next_left, none_left, due, along_more}
 use Rattle.search.proofs.Whole.{few_states, few_workers, room_fits, cleared_long, along_cleared, left_undecided, left_quiet, stacked, left_found}
 use Rattle.search.proofs.over.Goals as goal
 
@@ -31,51 +31,46 @@ loop-p-init c =
 pub step-verdict-requires : goal.step-verdict-requires
 step-verdict-requires c =
     let along = c.loop-p.invariant.along in
-    let next = sym c.next.ensures ∙ c.in-Some.is in
-    due along (next_left c.args.plan along next) (next_is c.args.plan along next)
+    due along (next_left c.args.plan along c.next.ensures c.in-Some.is)
 
 pub overflow_add-used : goal.overflow_add-used
 overflow_add-used c =
     let along = c.loop-p.invariant.along in
-    let left = next_left c.args.plan along (sym c.next.ensures ∙ c.in-Some.is) in
-    omega (arith, left, along.few)
+    let left = next_left c.args.plan along c.next.ensures c.in-Some.is in
+    omega (arith, left.within, along.few)
 
 pub show-requires : goal.show-requires
 show-requires c =
     let along = c.loop-p.invariant.along in
-    let next = sym c.next.ensures ∙ c.in-Some.is in
     rw (c.states-n.ensures, c.loop-p.invariant.lasso)
-    (stacked c.args.room.now c.args.lasso.now c.args.plan c.in_ok-graph.ensures c.args.tally.now along (next_left c.args.plan along next) (next_is c.args.plan along next)
+    (stacked c.args.room.now c.args.lasso.now c.args.plan c.in_ok-graph.ensures c.args.tally.now along (next_left c.args.plan along c.next.ensures c.in-Some.is)
     c.step-verdict.ensures {s = c.in-Some-Found.state} (search rules))
 
 pub returns-in-Some-Found : goal.returns-in-Some-Found
 returns-in-Some-Found c =
     let along = c.loop-p.invariant.along in
-    let next = sym c.next.ensures ∙ c.in-Some.is in
-    left_found c.args.room.now c.args.lasso.now c.args.plan c.in_ok-graph.ensures c.args.tally.now along (next_left c.args.plan along next) (next_is c.args.plan along next)
+    left_found c.args.room.now c.args.lasso.now c.args.plan c.in_ok-graph.ensures c.args.tally.now along (next_left c.args.plan along c.next.ensures c.in-Some.is)
     c.step-verdict.ensures (search rules) _
     (rw (c.states-n.ensures, c.loop-p.invariant.lasso) at c.show.ensures.lasso) (rw c.states-n.ensures at c.show.ensures.found)
 
 pub returns-in-Some-Quiet : goal.returns-in-Some-Quiet
 returns-in-Some-Quiet c =
     let along = c.loop-p.invariant.along in
-    let next = sym c.next.ensures ∙ c.in-Some.is in
     rw c.loop-p.invariant.lasso
-    (left_quiet c.args.room.now c.args.lasso.now c.args.plan c.in_ok-graph.ensures c.args.tally.now along (next_left c.args.plan along next) (next_is c.args.plan along next)
+    (left_quiet c.args.room.now c.args.lasso.now c.args.plan c.in_ok-graph.ensures c.args.tally.now along (next_left c.args.plan along c.next.ensures c.in-Some.is)
     c.step-verdict.ensures (search rules))
 
 pub loop-p-smaller : goal.loop-p-smaller
 loop-p-smaller c =
-    let left = next_left c.args.plan c.loop-p.invariant.along (sym c.next.ensures ∙ c.in-Some.is) in
-    omega (arith, left)
+    let left = next_left c.args.plan c.loop-p.invariant.along c.next.ensures c.in-Some.is in
+    omega (arith, left.within)
 
 pub loop-p-preserved : goal.loop-p-preserved
 loop-p-preserved c =
     let along = c.loop-p.invariant.along in
-    let next = sym c.next.ensures ∙ c.in-Some.is in
     record {
       lasso = c.loop-p.invariant.lasso;
-      along = along_more along (next_left c.args.plan along next) (next_is c.args.plan along next) c.step-verdict.ensures c.in-None.is;
+      along = along_more along (next_left c.args.plan along c.next.ensures c.in-Some.is) c.step-verdict.ensures c.in-None.is;
     }
 
 pub returns : goal.returns
