@@ -1,6 +1,6 @@
 -- Laws of `place_down`, the place of a word looked for from the last one down: that it is what an iterator finds; that it is within the words; and that in a
 -- stack's words, bottom first, as many words stand before it as the stack has below it.
-use Prim.Native.Nat.{ℕ, zero, suc, ◌-◌, ◌<◌, ◌≤◌}
+use Prim.Native.Nat.{ℕ, zero, suc, ◌<◌, ◌≤◌}
 use mathlib.Core.Path.{◌≡◌, refl, sym}
 use mathlib.Core.Bool.{cond}
 use mathlib.Core.List.{List, [], ◌∷◌, ◌++◌, reverse, reverse-cons}

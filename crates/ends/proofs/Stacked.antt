@@ -1,6 +1,6 @@
 -- What `Stacked` says of the depths of the stacks that the code reads; and that two copies make of the lasso room
 -- what `lasso_in` says.
-use Prim.Native.Nat.{ℕ, ◌+◌, ◌-◌, ◌*◌, ◌<◌, ◌≤◌}
+use Prim.Native.Nat.{ℕ, ◌+◌, ◌-◌, ◌*◌, ◌≤◌}
 use mathlib.Core.Path.{◌≡◌, refl}
 use mathlib.Core.List.{List, ◌++◌}
 use lib.ListN.{length, take, drop, length-take, length-drop}
@@ -8,7 +8,7 @@ use lib.Seq.{take_at, drop_at, drop-drop}
 use native.Mathlib.Nat.{add-sub_cancel_left}
 use native.Mathlib.Omega.{arith}
 use borrow.Rule.Slice.PartMut.{put_mid}
-use Rattle.moves.specs.Room.{stretch, stretch_at}
+use Rattle.moves.specs.Room.{stretch_at}
 use Rattle.ends.specs.declared.Outcome.TheVariants.{Cycle}
 use Rattle.ends.specs.Lasso.{Stacked, outer_depth, inner_depth, place_down, lasso_in, found_in}
 use Rattle.ends.proofs.Down.{place_in}

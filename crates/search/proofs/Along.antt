@@ -1,6 +1,6 @@
 -- Where a run stands in the list of its turns, from the start through each turn to the end. `Along` says it before each turn: the turns used brought
 -- no answer yet, and room and tally are those of the run over them.
-use Prim.Native.Nat.{ℕ, suc, ◌+◌, ◌*◌, ◌<◌, ◌≤◌, ◌^◌, ◌%◌}
+use Prim.Native.Nat.{ℕ, ◌+◌, ◌*◌, ◌<◌, ◌≤◌, ◌^◌, ◌%◌}
 use mathlib.Core.Path.{◌≡◌, refl, sym, ap, ◌∙◌}
 use mathlib.Core.Bool.{true, false}
 use mathlib.Core.List.{List, ◌++◌}
@@ -18,11 +18,10 @@ use Rattle.graphs.proofs.Words.{words_are}
 use Rattle.graphs.proofs.Tests.{below?, clash}
 use Rattle.graphs.proofs.Member.{mem_take, drop_mem}
 use Rattle.moves.specs.declared.Tally.{Tally}
-use Rattle.moves.specs.Machine.{Machine, start}
 use Rattle.moves.specs.Moves.{turn}
-use Rattle.moves.specs.Tally.{zeroes, raised, Low}
+use Rattle.moves.specs.Tally.{zeroes, Low}
 use Rattle.moves.specs.Room.{room, room_size}
-use Rattle.moves.specs.Run.{undecided, Result, begin, next, run_from, run, rounds}
+use Rattle.moves.specs.Run.{undecided, Result, begin, next, run_from, run}
 use Rattle.theory.specs.Turns.{Named, Decided, Stands, most_moves}
 use Rattle.theory.proofs.Run.{run_stands, begin_stands}
 use Rattle.theory.proofs.Demands.{each_turn_moves, answer_stays, graph_of_words, words_most, end_decides}
@@ -32,8 +31,7 @@ use Rattle.limits.specs.declared.Plan.{Plan}
 use Rattle.limits.specs.declared.Plan.TheVariants.{Turns, Rounds}
 use Rattle.limits.specs.Plans.{listed, next_in}
 use Rattle.steps.specs.declared.Verdict.{Verdict}
-use Rattle.steps.specs.declared.Verdict.TheVariants.{Quiet, Found}
-use Rattle.steps.specs.Verdict.{answer_of, verdict_of}
+use Rattle.steps.specs.Verdict.{answer_of}
 use Rattle.steps.specs.Steps.{Held, Due, Stepped, Steps}
 use Rattle.steps.proofs.Answered.{verdict_stands}
 use Rattle.ends.proofs.Fresh.{fresh_room}

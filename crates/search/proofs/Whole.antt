@@ -4,12 +4,12 @@ use mathlib.Core.Path.{◌≡◌, refl, sym, ap, subst, ◌∙◌}
 use mathlib.Core.Bool.{true}
 use mathlib.Core.List.{List, ◌++◌}
 use mathlib.Core.Logic.{◌≢◌}
-use lib.ListN.{length, get_or, drop, take, replicate}
+use lib.ListN.{length, drop, take, replicate}
 use lib.Seq.{length-take-le, take_all}
 use borrow.Author.Tests.{ne_eqb}
-use Rattle.std.specs.Prelude.{Option, None, Some, Result as Result·std, Ok}
+use Rattle.std.specs.Prelude.{Option, Some, Ok}
 use Rattle.graphs.specs.declared.graph.Graph.{Graph as Graph·rust}
-use Rattle.graphs.specs.Graph.{Graph, Sound, graph}
+use Rattle.graphs.specs.Graph.{Graph, graph}
 use Rattle.graphs.specs.Words.{graph_of, is_graph, most_states}
 use Rattle.graphs.proofs.Words.{words_are}
 use Rattle.graphs.proofs.Member.{mem_take}
@@ -17,23 +17,21 @@ use Rattle.moves.specs.declared.Tally.{Tally}
 use Rattle.moves.specs.Machine.{Worker}
 use Rattle.moves.specs.Moves.{turn}
 use Rattle.moves.specs.Room.{room, room_size, stretch_at}
-use Rattle.moves.specs.Run.{Result, Answer, cycle, none, run, stem_of, loop_of, all_done}
+use Rattle.moves.specs.Run.{Result, cycle, none, run, stem_of, loop_of, all_done}
 use Rattle.moves.specs.Tally.{zeroes}
 use Rattle.moves.proofs.Words.{Seen}
-use Rattle.theory.specs.Turns.{Decided}
 use Rattle.theory.proofs.Demands.{graph_of_words}
 use Rattle.theory.proofs.Rooms.{run_fits}
 use Rattle.theory.proofs.Rules.{obeys}
 use Rattle.limits.specs.declared.Plan.{Plan}
-use Rattle.limits.specs.declared.RunError.{RunError}
 use Rattle.limits.specs.Plans.{listed}
 use Rattle.limits.specs.Refusals.{most_workers, refusal_of, Passed}
 use Rattle.limits.proofs.Refused.{Fine, fine}
 use Rattle.steps.specs.declared.Verdict.{Verdict}
 use Rattle.steps.specs.declared.Verdict.TheVariants.{Quiet, Found}
-use Rattle.steps.specs.Verdict.{answer_of, verdict_of}
+use Rattle.steps.specs.Verdict.{answer_of}
 use Rattle.steps.specs.Steps.{Held, Steps}
-use Rattle.steps.proofs.Answered.{AtFound, verdict_deep}
+use Rattle.steps.proofs.Answered.{verdict_deep}
 use Rattle.ends.specs.declared.Outcome.{Outcome}
 use Rattle.ends.specs.declared.Outcome.TheVariants.{None as None·told, Undecided}
 use Rattle.ends.specs.Lasso.{Stacked, lasso_in, found_in}

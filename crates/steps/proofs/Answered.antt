@@ -26,9 +26,7 @@ use Rattle.moves.specs.Tally.{raised}
 use Rattle.moves.proofs.Words.{Seen, own_word, last_at, long}
 use Rattle.theory.specs.Rules.{Rule, by_start, by_skip, by_enter, by_leave, by_seed, by_hit, by_pass, by_join, by_back, by_paint, by_wait}
 use Rattle.theory.specs.Rules.{by_rest}
-use Rattle.theory.specs.Turns.{AllShallow}
 use Rattle.theory.proofs.Demands.{graph_of_words}
-use Rattle.theory.proofs.Rules.{obeys}
 use Rattle.theory.proofs.Run.{turn_shallow}
 use Rattle.turn.specs.Turn.{Formed, Turned}
 use Rattle.steps.specs.declared.Verdict.{Verdict}

@@ -2,7 +2,7 @@
 use Rattle.std.specs.Prelude.{ℕ, ◌+◌, ◌*◌, Bool, cond, List, eqb, get_or, Option, None, Some}
 use Rattle.graphs.specs.Lists.{every}
 use Rattle.moves.specs.declared.Move.{Move}
-use Rattle.moves.specs.declared.Move.TheVariants.{Start, Skip, Enter, Leave, Seed, Hit, Pass, Join, Back, Paint, Wait, Rest}
+use Rattle.moves.specs.declared.Move.TheVariants.{Hit}
 use Rattle.moves.specs.Machine.{Machine}
 use Rattle.moves.specs.Room.{stretch_at}
 use Rattle.moves.specs.Run.{Answer, cycle, none, undecided, stem_of, loop_of, all_done}
