@@ -7,6 +7,7 @@ use Rattle.lines.specs.Found.{first_word, second_word, state_found, transition_f
 use Rattle.lines.specs.declared.Label.{Label}
 use Rattle.lines.specs.declared.StateLine.{StateLine}
 use Rattle.pairs.specs.Pairs.{is_pair, found}
+use Rattle.pairs.specs.declared.Index.{Index}
 use Rattle.text.specs.Text.{State, Transition, Rooms, Meaning, reads, refused, read_lines}
 use Rattle.text.specs.Lists.{refusal, targets_from, filled}
 use Rattle.statelist.specs.Told.{error_number, error_line, told, comes}
@@ -66,15 +67,17 @@ pub record StateNew (text : List ℕ) (held : ℕ) (first second : List ℕ) (at
   pub new : found (is_pair first second line.label.first line.label.second) n ≡ None
   pub room : n < held
 
-abbrev pub StateNext : (text : List ℕ) (held : ℕ) (first second : List ℕ) (at n : ℕ) → Result StateLine ReadError → Type 0
-StateNext text held first second at n (Ok line) = StateNew text held first second at n line
-StateNext text held first second at n (Err error) =
-    (flags places : List ℕ) (t : ℕ) → Declared text held flags places first second at n → Refused error (from_here (room_for held t) text 0 [] [])
+abbrev pub StateNext : (text : List ℕ) (held : ℕ) (labels : Index 4096) (at : ℕ) → Result StateLine ReadError → Type 0
+StateNext text held labels at (Ok line) = StateNew text held labels.first labels.second at labels.len line
+StateNext text held labels at (Err error) =
+    (flags places : List ℕ) (t : ℕ) → Declared text held flags places labels.first labels.second at labels.len
+    → Refused error (from_here (room_for held t) text 0 [] [])
 
 -- what reading the S lines gives: the line that it went to is none of them
-abbrev pub StatesRead : (text : List ℕ) (held : ℕ) (flags places first second : List ℕ) (n : ℕ) → Result ℕ ReadError → Type 0
-StatesRead text held flags places first second n (Ok at) = Declared text held flags places first second at n × (get_or text at 0 ≢ 83)
-StatesRead text held flags places first second n (Err error) = (t : ℕ) → Refused error (from_here (room_for held t) text 0 [] [])
+abbrev pub StatesRead : (text : List ℕ) (held : ℕ) (flags places : List ℕ) (labels : Index 4096) → Result ℕ ReadError → Type 0
+StatesRead text held flags places labels (Ok at) =
+    Declared text held flags places labels.first labels.second at labels.len × (get_or text at 0 ≢ 83)
+StatesRead text held flags places labels (Err error) = (t : ℕ) → Refused error (from_here (room_for held t) text 0 [] [])
 
 -- e transitions were read from `start` up to a place of the text, and counted by their sources in `offsets`; whatever the flags of the states, and
 -- the room for states
@@ -98,19 +101,23 @@ pub record TransitionNew (text : List ℕ) (held n : ℕ) (first second from to 
   pub new : found (is_pair from to step.from step.to) e ≡ None
   pub room : e < held
 
-abbrev pub TransitionNext : (text : List ℕ) (held n : ℕ) (first second from to : List ℕ) (at e : ℕ) → Result Step ReadError → Type 0
-TransitionNext text held n first second from to at e (Ok step) = TransitionNew text held n first second from to at e step
-TransitionNext text held n first second from to at e (Err error) =
-    (start : ℕ) (offsets flags places : List ℕ) (h : ℕ) → Listed text held n start first second offsets from to at e
-    → Labelled text places first second n → Refused error (from_here (room_for h held) text start (states_in text flags places n) [])
+abbrev pub TransitionNext : (text : List ℕ) (held : ℕ) (labels : Index 4096) (pairs : Index 16384) (at : ℕ) → Result Step ReadError → Type 0
+TransitionNext text held labels pairs at (Ok step) =
+    TransitionNew text held labels.len labels.first labels.second pairs.first pairs.second at pairs.len step
+TransitionNext text held labels pairs at (Err error) =
+    (start : ℕ) (offsets flags places : List ℕ) (h : ℕ)
+    → Listed text held labels.len start labels.first labels.second offsets pairs.first pairs.second at pairs.len
+    → Labelled text places labels.first labels.second labels.len
+    → Refused error (from_here (room_for h held) text start (states_in text flags places labels.len) [])
 
 -- what reading the T lines gives, up to the end of the text
-abbrev pub TransitionsRead : (text : List ℕ) (held n start : ℕ) (first second offsets from to : List ℕ) (e : ℕ) → Result Unit ReadError → Type 0
-TransitionsRead text held n start first second offsets from to e (Ok done) =
-    (at : ℕ) × (Listed text held n start first second offsets from to at e × (length text ≤ at))
-TransitionsRead text held n start first second offsets from to e (Err error) =
-    (flags places : List ℕ) (h : ℕ) → Labelled text places first second n
-    → Refused error (from_here (room_for h held) text start (states_in text flags places n) [])
+abbrev pub TransitionsRead : (text : List ℕ) (held start : ℕ) (labels : Index 4096) (offsets : List ℕ) (pairs : Index 16384)
+    → Result Unit ReadError → Type 0
+TransitionsRead text held start labels offsets pairs (Ok done) =
+    (at : ℕ) × (Listed text held labels.len start labels.first labels.second offsets pairs.first pairs.second at pairs.len × (length text ≤ at))
+TransitionsRead text held start labels offsets pairs (Err error) =
+    (flags places : List ℕ) (h : ℕ) → Labelled text places labels.first labels.second labels.len
+    → Refused error (from_here (room_for h held) text start (states_in text flags places labels.len) [])
 
 -- what comes of the lists once the text is read: if it is refused, they may be left in any state
 abbrev pub Fills : (offsets targets flags places : List ℕ) → Result Size ReadError → Meaning → Type 0

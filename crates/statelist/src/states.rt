@@ -2,7 +2,8 @@
 ghost use Rattle.std.specs.Prelude.{◌≡◌, ◌*◌, ◌≤◌, ◌<◌, length, get_or};
 ghost use Rattle.graphs.specs.Words.{most_states};
 ghost use Rattle.text.specs.Text.{most_text};
-ghost use Rattle.statelist.specs.Loops.{Declared, StateNext, StatesRead};
+ghost use Rattle.text.specs.Lists.{zeros};
+ghost use Rattle.statelist.specs.Loops.{StateNext, StatesRead};
 
 use crate::ReadError;
 use lines::{StateLine, state_line};
@@ -18,8 +19,8 @@ pub fn read_states(
 ) -> Result<usize, ReadError>
     requires short { length text.now ≤ most_text }
     requires held { (held ≤ most_states) × (held ≤ length flags.old) × (2 * held ≤ length places.old) }
-    requires none { Declared text.now held flags.old places.old labels.old.first labels.old.second 0 labels.old.len }
-    ensures { StatesRead text.now held flags.new places.new labels.new.first labels.new.second labels.new.len result }
+    requires none { (labels.old.len ≡ 0) × (flags.old ≡ zeros (length flags.old)) × (places.old ≡ zeros (length places.old)) }
+    ensures { StatesRead text.now held flags.new places.new labels.new result }
 {
     let mut at = 0;
     while text.get(at) == Some(&b'S') {
@@ -43,7 +44,7 @@ fn next_state(
 ) -> Result<StateLine, ReadError>
     requires short { length text.now ≤ most_text }
     requires letter { (at < length text.now) × (get_or text.now at 0 ≡ 83) }
-    ensures { StateNext text.now held labels.now.first labels.now.second at labels.now.len result }
+    ensures { StateNext text.now held labels.now at result }
 {
     let line = labels.len + 1;
     let Some(state) = state_line(text, at) else {

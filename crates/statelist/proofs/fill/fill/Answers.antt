@@ -9,15 +9,6 @@ use Rattle.statelist.proofs.Ends.{rooms_same, stop_fills, ends_none, ends_graph,
 use Rattle.statelist.proofs.Listed.{listed_none}
 use Rattle.statelist.proofs.fill.fill.Goals as goal
 
-pub read_states-requires-clause-none : goal.read_states-requires-clause-none
-read_states-requires-clause-none c =
-    rw c.new-labels.ensures.len (declared_none _ _ _ _ _ _ c.requires.flags c.requires.places)
-
-pub read_transitions-requires-clause-none : goal.read_transitions-requires-clause-none
-read_transitions-requires-clause-none c =
-    let read = c.in_ok-at.ensures in
-    rw c.new-pairs.ensures.len (listed_none _ _ _ _ _ _ _ _ _ c.requires.offsets read.0.in_text read.1)
-
 pub returns-in_err-read_transitions : goal.returns-in_err-read_transitions
 returns-in_err-read_transitions c =
     let stop : c.from_residual-in_err-read_transitions.result ≡ Err c.in_err-read_transitions.field-0.0 = grind arith in

@@ -5,9 +5,12 @@ use Prim.Native.Nat.{◌<◌}
 use lib.ListN.{length}
 use Rattle.std.proofs.Common.{Err, rules}
 use Rattle.pairs.proofs.Chain.{inserted_room}
-use Rattle.statelist.proofs.Declared.{label_short, state_past, declared_more}
+use Rattle.statelist.proofs.Declared.{label_short, state_past, declared_none, declared_more}
 use Rattle.statelist.proofs.Here.{state_here}
 use Rattle.statelist.proofs.states.read_states.Goals as goal
+
+pub loop-labels-init : goal.loop-labels-init
+loop-labels-init c = rw c.requires.none.0 (declared_none _ _ _ _ _ _ c.requires.none.1 c.requires.none.2)
 
 pub returns-in_err-line : goal.returns-in_err-line
 returns-in_err-line c =
