@@ -70,9 +70,6 @@ module _ {text : List ℕ} {held : ℕ} {flags places first second : List ℕ} {
   abbrev states : List State
   states = states_in text flags places n
 
-  number_is : suc (length states + 0) ≡ n + 1
-  number_is = let k = states_long text flags places n in omega arith
-
   refuse : (error : ReadError) (t : ℕ) → from_here (room_for held t) text at states [] ≡ refused (error_number error) (suc (length states + 0))
       → error_line error ≡ n + 1 → Refused error (from_here (room_for held t) text 0 [] [])
   refuse error t e line_is =

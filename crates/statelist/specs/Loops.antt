@@ -26,6 +26,10 @@ states_in text flags places n = tab 0 n (state_at text flags places)
 unfoldable pub transitions_in : (from to : List ℕ) → ℕ → List Transition
 transitions_in from to e = tab 0 e (λ i. record { from = get_or from i 0; to = get_or to i 0 })
 
+-- the pairs of an index as transitions
+abbrev pub transitions_of : Index 16384 → List Transition
+transitions_of pairs = transitions_in pairs.first pairs.second pairs.len
+
 -- what the text means from a place on, once these states and transitions were read, a line each
 unfoldable pub from_here : Rooms → List ℕ → ℕ → List State → List Transition → Meaning
 from_here rooms text at states transitions =

@@ -4,9 +4,7 @@ use native.Mathlib.Omega.{arith}
 use lib.ListN.{length}
 use Rattle.std.proofs.Common.{Err}
 use Rattle.text.specs.Lists.{transitions_held}
-use Rattle.statelist.proofs.Declared.{declared_none}
 use Rattle.statelist.proofs.Ends.{rooms_same, stop_fills, ends_none, ends_graph, listed_buildable}
-use Rattle.statelist.proofs.Listed.{listed_none}
 use Rattle.statelist.proofs.fill.fill.Goals as goal
 
 pub returns-in_err-read_transitions : goal.returns-in_err-read_transitions
