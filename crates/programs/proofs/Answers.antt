@@ -2,7 +2,8 @@
 use Prim.Native.Nat.{ℕ, ◌<◌}
 use mathlib.Core.Path.{◌≡◌, refl, ap}
 use mathlib.Core.Bool.{true}
-use mathlib.Core.List.{List, ◌++◌, append_assoc}
+use mathlib.Core.List.{List, [], ◌∷◌, ◌++◌, append_assoc}
+use mathlib.Core.Logic.{inl, inr}
 use lib.ListN.{length, drop}
 use lib.Seq.{take_at, drop_at}
 use Rattle.graphs.specs.Lists.{Mem}
@@ -15,15 +16,14 @@ use Rattle.moves.specs.Run.{Answer, cycle, none, undecided, run}
 use Rattle.theory.specs.Turns.{Named}
 use Rattle.theory.proofs.Demands.{graph_of_words, cycle_is_lasso}
 use Rattle.ends.specs.Told.{tells_of, shown}
-use Rattle.page.specs.Words.{bytes}
-use Rattle.page.proofs.Pieces.{joined_same}
+use Rattle.std.specs.Prelude.{codes, flat_map}
 use Rattle.report.specs.Report.{state_line, state_lines, tally_line, cycle_lines, run_lines}
 
 -- the lines of an answer
 abbrev pub answer_lines : (ℕ → List ℕ) → Answer → Tally → List ℕ
 answer_lines label (cycle stem loop) t = cycle_lines label stem loop t
-answer_lines label none t = bytes "answer\tnone\n" ++ tally_line t
-answer_lines label undecided t = bytes "answer\tundecided\n" ++ tally_line t
+answer_lines label none t = codes "answer\tnone\n" ++ tally_line t
+answer_lines label undecided t = codes "answer\tundecided\n" ++ tally_line t
 
 -- stem and loop are what the lasso room shows of them
 pub told_lines : (label : ℕ → List ℕ) (a : Answer) (used : ℕ) (lasso : List ℕ) (t : Tally)
@@ -39,10 +39,15 @@ told_lines label (cycle stem loop) used lasso t =
 told_lines label none used lasso t = refl
 told_lines label undecided used lasso t = refl
 
+-- pieces that are the same for each of the list
+pub flat_map_same : (f g : ℕ → List ℕ) (l : List ℕ) → ((x : ℕ) → Mem x l → f x ≡ g x) → flat_map f l ≡ flat_map g l
+flat_map_same f g [] h = refl
+flat_map_same f g (x ∷ l) h = rw (h x (inl refl), flat_map_same f g l (λ y m. h y (inr m)))
+
 states_same : (label label' : ℕ → List ℕ) (word states : List ℕ) → ((s : ℕ) → Mem s states → label s ≡ label' s)
     → state_lines word label states ≡ state_lines word label' states
 states_same label label' word states h =
-    joined_same (λ s. state_line word (label s)) (λ s. state_line word (label' s)) states (λ s m. ap (state_line word) (h s m))
+    flat_map_same (λ s. state_line word (label s)) (λ s. state_line word (label' s)) states (λ s m. ap (state_line word) (h s m))
 
 -- the labels of other states than the answer's don't count
 same_lines : (label label' : ℕ → List ℕ) (a : Answer) (t : Tally)
@@ -51,8 +56,8 @@ same_lines : (label label' : ℕ → List ℕ) (a : Answer) (t : Tally)
 unfolding cycle_lines
 same_lines label label' (cycle stem loop) t h =
     rw (
-      states_same label label' (bytes "stem\t") stem (λ s m. h stem loop refl s (mem_left s stem loop m)),
-      states_same label label' (bytes "loop\t") loop (λ s m. h stem loop refl s (mem_right s stem loop m)),
+      states_same label label' (codes "stem\t") stem (λ s m. h stem loop refl s (mem_left s stem loop m)),
+      states_same label label' (codes "loop\t") loop (λ s m. h stem loop refl s (mem_right s stem loop m)),
     )
 same_lines label label' none t h = refl
 same_lines label label' undecided t h = refl

@@ -35,20 +35,19 @@ use Rattle.text.proofs.Filled.{offsets_first, targets_first, flags_first, flags_
 use Rattle.text.proofs.Labels.{label_named}
 use Rattle.search.specs.Outcomes.{Lent, left, unless, outcome, outcome_to_end}
 use Rattle.search.proofs.Whole.{unless_0, unless_not}
-use Rattle.page.specs.Words.{bytes}
+use Rattle.std.specs.Prelude.{codes}
 use Rattle.page.specs.Numbers.{numbers_line}
-use Rattle.page.proofs.Pieces.{joined_same}
 use Rattle.report.specs.Report.{refused_line, run_lines, seed_field, label_field, worker_line, worker_lines, own_at, used_lines, end_lines}
 use Rattle.programs.specs.Replay.{ran, named, replay_lines, lines_of, replayed}
-use Rattle.programs.proofs.Answers.{answer_lines, told_lines, run_same}
+use Rattle.programs.proofs.Answers.{answer_lines, told_lines, flat_map_same, run_same}
 
 -- the labels of other states than the seed don't count in a worker's line
 same_seed : (label label' : ℕ → List ℕ) (p : Place) → ((z : ℕ) → SeedAt p z → label z ≡ label' z) → seed_field label p ≡ seed_field label' p
 unfolding label_field
 same_seed label label' Fresh h = refl
 same_seed label label' Outer h = refl
-same_seed label label' (Inner z) h = ap (λ l. bytes "\t" ++ l) (h z refl)
-same_seed label label' (Waiting z) h = ap (λ l. bytes "\t" ++ l) (h z refl)
+same_seed label label' (Inner z) h = ap (λ l. codes "\t" ++ l) (h z refl)
+same_seed label label' (Waiting z) h = ap (λ l. codes "\t" ++ l) (h z refl)
 same_seed label label' Done h = refl
 
 same_worker : (label label' : ℕ → List ℕ) (q : ℕ) (own own' : Own) → own ≡ own' → ((z : ℕ) → SeedAt own'.place z → label z ≡ label' z)
@@ -60,7 +59,7 @@ same_worker label label' q own own' e h = rw (e, same_seed label label' own'.pla
 abbrev pub result_lines : (ℕ → List ℕ) → ℕ → Result → List ℕ
 result_lines label P r =
     answer_lines label r.answer r.tally
-    ++ (numbers_line (bytes "used") (r.used ∷ []) ++ worker_lines label (λ q. own_of (r.machine.worker q)) P)
+    ++ (numbers_line (codes "used") (r.used ∷ []) ++ worker_lines label (λ q. own_of (r.machine.worker q)) P)
 
 -- the turns that are checked, and those that are run
 abbrev pub checked : Bool → List ℕ → List ℕ
@@ -120,10 +119,10 @@ module _ (turns : List ℕ) (workers : ℕ) (offsets targets flags words lasso :
       own_lines : (rest : List ℕ)
           → worker_lines label (own_at (room (length flags) P end.machine ++ rest) (length flags)) P
           ≡ worker_lines label' (λ q. own_of (end.machine.worker q)) P
-      unfolding graph_of graph
+      unfolding graph_of graph worker_lines
       own_lines rest =
           let l = room (length flags) P end.machine ++ rest in
-          joined_same (λ q. worker_line label q (own_at l (length flags) q)) (λ q. worker_line label' q (own_of (end.machine.worker q))) (up_from 0 P)
+          flat_map_same (λ q. worker_line label q (own_at l (length flags) q)) (λ q. worker_line label' q (own_of (end.machine.worker q))) (up_from 0 P)
           (λ q m.
           same_worker label label' q (own_at l (length flags) q) (own_of (end.machine.worker q))
           (own_seen (length flags) P q (up_from_below 0 P P (omega arith) q m) end.machine rest l
@@ -132,11 +131,11 @@ module _ (turns : List ℕ) (workers : ℕ) (offsets targets flags words lasso :
 
       end_lines_lem : (a : Answer) (used : ℕ) (rest : List ℕ)
           → end_lines label (room (length flags) P end.machine ++ rest) (length flags) P (tells_of a used)
-          ≡ numbers_line (bytes "used") (used ∷ []) ++ worker_lines label' (λ q. own_of (end.machine.worker q)) P
+          ≡ numbers_line (codes "used") (used ∷ []) ++ worker_lines label' (λ q. own_of (end.machine.worker q)) P
       unfolding used_lines
-      end_lines_lem (cycle stem loop) used rest = ap (λ l. numbers_line (bytes "used") (used ∷ []) ++ l) (own_lines rest)
-      end_lines_lem none used rest = ap (λ l. numbers_line (bytes "used") (used ∷ []) ++ l) (own_lines rest)
-      end_lines_lem undecided used rest = ap (λ l. numbers_line (bytes "used") (used ∷ []) ++ l) (own_lines rest)
+      end_lines_lem (cycle stem loop) used rest = ap (λ l. numbers_line (codes "used") (used ∷ []) ++ l) (own_lines rest)
+      end_lines_lem none used rest = ap (λ l. numbers_line (codes "used") (used ∷ []) ++ l) (own_lines rest)
+      end_lines_lem undecided used rest = ap (λ l. numbers_line (codes "used") (used ∷ []) ++ l) (own_lines rest)
 
       run_lines_lem : printed out ≡ result_lines label' P end
       unfolding left

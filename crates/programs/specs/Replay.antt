@@ -1,7 +1,9 @@
 -- What `replay` prints for a run over the turns, or to the end, of so many workers, and a text.
-use Rattle.std.specs.Prelude.{ℕ, ◌+◌, Bool, cond, List, ◌++◌, length, take}
+use Rattle.std.specs.Prelude.{ℕ, ◌+◌, Bool, true, false, cond, List, ◌++◌, length, take}
 use Rattle.moves.specs.Tally.{zeroes}
 use Rattle.moves.specs.Room.{room_size}
+use Rattle.limits.specs.declared.Plan.{Plan}
+use Rattle.limits.specs.declared.Plan.TheVariants.{Turns, Rounds}
 use Rattle.limits.specs.Refusals.{usual}
 use Rattle.text.specs.Lists as reader
 use Rattle.text.specs.Labels.{label_at}
@@ -11,6 +13,11 @@ use Rattle.report.specs.Report.{refused_line, run_lines, end_lines}
 -- a full-size list: 4,096 states, 16,384 transitions
 abbrev pub reading : List ℕ → reader.Outcome
 reading text = reader.outcome 4097 16384 4096 8192 text
+
+-- whether a plan's run is the run to the end
+abbrev pub ending : Plan → Bool
+ending (Turns turns) = false
+ending Rounds = true
 
 unfoldable pub ran : Bool → (turns : List ℕ) → ℕ → (offsets targets flags room lasso : List ℕ) → Lent
 ran ending turns workers offsets targets flags room lasso =

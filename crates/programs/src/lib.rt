@@ -1,6 +1,7 @@
 // What the programs print, from text to page.
 #![tactic(auto)]
 
+mod list;
 mod replay;
 mod skiffplank;
 

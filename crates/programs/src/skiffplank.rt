@@ -1,12 +1,13 @@
 // 01 "The program": a text of at most 32,768 bytes, rooms for 256 states and 1,024 transitions, a run to the end with two workers.
-ghost use Rattle.std.specs.Prelude.{◌≡◌};
-ghost use Rattle.page.specs.Page.{written, puts};
-ghost use Rattle.programs.specs.Given.{Given};
+ghost use Rattle.std.specs.Prelude.{◌≡◌, ◌≤◌, ◌+◌, length};
+ghost use Rattle.page.specs.Page.{Adds, written, puts};
 ghost use Rattle.programs.specs.Skiffplank.{search_lines, searched};
 
-use report::{put_reading, put_refusal, put_run};
-use search::counted_run_to_end;
-use statelist::{Reading, read};
+use crate::list::StateList;
+use page::Page;
+use report::{put_reading, put_run};
+use search::{Counted, counted_run_to_end};
+use statelist::{ReadError, read};
 
 // The most bytes that the program takes.
 const MOST_INPUT: usize = 32768;
@@ -15,48 +16,48 @@ const MOST_INPUT: usize = 32768;
 pub fn search_page(page: &mut [u8; 16384], text: &[u8]) -> usize
     ensures { written result page.new ≡ puts page.old 0 (searched text.now) }
 {
-    if MOST_INPUT < text.len() {
-        return put_refusal(page, 0, 1, 0);
-    }
-    let mut offsets = [0u16; 257];
-    let mut targets = [0u16; 1024];
-    let mut flags = [0u16; 256];
-    let mut places = [0u32; 512];
-    let reading = read(&mut offsets, &mut targets, &mut flags, &mut places, text);
-    let Reading::Graph {
-        states,
-        transitions,
-    } = reading
-    else {
-        return put_reading(page, 0, reading);
+    let mut page = Page {
+        bytes: page,
+        len: 0,
     };
-    put_search(
-        page,
-        text,
-        &offsets[..states + 1],
-        &targets[..transitions],
-        &flags[..states],
-        &places,
-    )
+    put_searched(&mut page, text);
+    page.len
 }
 
-fn put_search(
-    page: &mut [u8; 16384],
-    text: &[u8],
-    offsets: &[u16],
-    targets: &[u16],
-    flags: &[u16],
-    places: &[u32],
-) -> usize
-    requires { Given 256 text.now offsets.now targets.now flags.now places.now }
-    ensures { written result page.new
-        ≡ puts page.old 0
-        (search_lines text.now offsets.now targets.now flags.now places.now) }
+fn put_searched(page: &mut Page<'_>, text: &[u8])
+    requires { page.old.len + 16384 ≤ length page.old.bytes.now }
+    ensures { Adds page.old page.new (searched text.now) }
 {
-    let mut room = [0u16; 3080];
-    let mut lasso = [0u16; 512];
-    let counted = counted_run_to_end(&mut room, &mut lasso, offsets, targets, flags, 2);
-    let outcome = counted.outcome;
-    let tally = counted.tally;
-    put_run(page, 0, text, places, &lasso, outcome, tally)
+    if MOST_INPUT < text.len() {
+        return put_reading(page, ReadError::TooLong);
+    }
+    let mut offsets = [0; 257];
+    let mut targets = [0; 1024];
+    let mut flags = [0; 256];
+    let mut places = [0; 512];
+    match read(&mut offsets, &mut targets, &mut flags, &mut places, text) {
+        Ok(size) => {
+            let list = StateList::new(&offsets, &targets, &flags, &places, text, size);
+            put_search_lines(page, &list);
+        }
+        Err(error) => put_reading(page, error),
+    }
+}
+
+fn put_search_lines(page: &mut Page<'_>, list: &StateList<'_>)
+    requires { page.old.len + 16384 ≤ length page.old.bytes.now }
+    ensures { Adds page.old page.new (search_lines list.now.labels.text.now
+        list.now.offsets.now list.now.targets.now list.now.flags.now list.now.labels.places.now) }
+{
+    let mut room = [0; 3080];
+    let mut lasso = [0; 512];
+    let Counted { outcome, tally } = counted_run_to_end(
+        &mut room,
+        &mut lasso,
+        list.offsets,
+        list.targets,
+        list.flags,
+        2,
+    );
+    put_run(page, &list.labels, &lasso, outcome, tally);
 }
