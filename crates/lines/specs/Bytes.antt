@@ -1,6 +1,6 @@
 -- The kinds of bytes. 01: "The reader sorts bytes by a table of 256 byte kinds (upper, lower, digit, mark, tab, line feed, other)".
 use Rattle.std.specs.Prelude.{ℕ, Bool, true, false, if◌then◌else◌, ◌&&◌, ◌||◌, List, ◌==◌, nat_le}
-use Rattle.graphs.specs.Lists as lists
+use Rattle.graphs.specs.Lists.{tab}
 use Rattle.lines.specs.declared.kinds.Kind.{Kind}
 use Rattle.lines.specs.declared.kinds.Kind.TheVariants.{Upper, Lower, Digit, Mark, Tab, LineFeed, Other}
 
@@ -34,4 +34,4 @@ in_label b = of_label (kind_of b)
 
 -- the kinds of all bytes
 unfoldable pub kind_table : List Kind
-kind_table = lists.tab 0 256 kind_of
+kind_table = tab 0 256 kind_of

@@ -10,7 +10,8 @@ ghost use Rattle.lines.specs.Found.{state_found, transition_found};
 pub use kinds::Kind;
 use scan::{first_label, front};
 
-// A label: its length, and its bytes as two words, the first eight bytes and the rest of them, in base 256.
+// A label: its length, and its bytes as two words, the first eight bytes and the rest of them, in base 256. Different labels have different
+// words (`words_differ`), and two words are looked up faster than sixteen bytes.
 #[derive(Clone, Copy, Debug, PartialEq, Eq)]
 pub struct Label {
     pub len: usize,
@@ -47,6 +48,7 @@ pub fn state_line(text: &[u8], at: usize) -> Option<StateLine>
     } else {
         return None;
     };
+    // `S`, two tabs, the flag and the line feed stand around the label
     Some(StateLine {
         label,
         flag,
@@ -64,6 +66,7 @@ pub fn transition_line(text: &[u8], at: usize) -> Option<TransitionLine>
     if !left.starts_with(b"\n") {
         return None;
     }
+    // `T`, two tabs and the line feed stand around the labels
     Some(TransitionLine {
         from,
         to,
