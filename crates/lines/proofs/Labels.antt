@@ -50,10 +50,6 @@ here_split left =
     let inside : n ≤ 16 = omega (arith, prefix_len-le-length in_label l, length-take 16 left) in
     rw (length-prefix_len in_label l, take-take n 16 left inside) (sym (take-append-drop n left))
 
--- no label byte stands first
-pub here_none : (left : List ℕ) → prefix_len in_label (take 8 left) ≡ 0 → label_here left ≡ []
-here_none left e = rw (run_short 8 8 left (omega arith), e)
-
 -- a part of less than eight bytes is the whole label
 pub label_of_one : (left : List ℕ) → (part_of (take 8 left)).len < 8
     → record { len = (part_of (take 8 left)).len; first = (part_of (take 8 left)).word; second = 0 } ≡ label_of (label_here left)

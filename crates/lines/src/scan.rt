@@ -40,6 +40,7 @@ fn first_part(left: &[u8]) -> Part
 }
 
 // The label of up to 16 bytes that stands first, and what is left after it.
+#[tactic(auto, unfolding(crate::specs::Scan::part_of))]
 pub fn first_label(left: &[u8]) -> Option<(Label, &[u8])>
     ensures begins { MatchOption result (label_here left.now ≡ []) (λ r. Begins left.now r.0 r.1.now) }
     ensures few { IfSome result (λ r. r.0.len ≤ 16) }

@@ -1,12 +1,8 @@
 -- `first_label` meets its contract: a label is one part of less than eight bytes, or eight bytes and a second part.
 use native.Mathlib.Omega.{arith}
 use Rattle.lines.specs.Scan.{part_of}
-use Rattle.lines.proofs.Labels.{here_none, label_of_one, label_of_two, to_end, begins}
+use Rattle.lines.proofs.Labels.{label_of_one, label_of_two, to_end, begins}
 use Rattle.lines.proofs.scan.first_label.Goals as goal
-
-pub returns-then-len-eq0-clause-begins : goal.returns-then-len-eq0-clause-begins
-unfolding part_of
-returns-then-len-eq0-clause-begins c = here_none _ (rw c.first_part-len.ensures.is at c.if-len-eq0.true)
 
 pub returns-then-len-lt8-clause-begins : goal.returns-then-len-lt8-clause-begins
 unfolding part_of
