@@ -9,7 +9,7 @@ use Rattle.graphs.proofs.Every.{every_of, every_at, every_not}
 use Rattle.graphs.proofs.Tests.{clash}
 
 -- an answer that is true just where the test holds of each number is `every`
-is_every : (r : Bool) (n : ℕ) (f : ℕ → Bool) → (IsTrue r ↔ ((i : ℕ) → i < n → f i ≡ true)) → r ≡ every n f
+pub is_every : (r : Bool) (n : ℕ) (f : ℕ → Bool) → (IsTrue r ↔ ((i : ℕ) → i < n → f i ≡ true)) → r ≡ every n f
 is_every true n f h = sym (every_of n f (h.0 refl))
 is_every false n f h = go (every n f) refl
   where

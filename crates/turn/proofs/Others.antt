@@ -1,5 +1,5 @@
 -- The waiting test, from what it says of each state to the machine's test of all.
-use Prim.Native.Nat.{ℕ, ◌<◌}
+use Prim.Native.Nat.{ℕ}
 use mathlib.Core.Path.{◌≡◌, refl, sym, ◌∙◌}
 use mathlib.Core.Bool.{Bool, true, false, not, ◌&&◌, ◌||◌}
 use mathlib.Core.List.{List}
@@ -7,25 +7,15 @@ use lib.ListN.{length}
 use native.Mathlib.Omega.{arith}
 use borrow.Author.Tests.{eqb-true, eqb-false, ne_eqb, eq-eqb}
 use Rattle.std.specs.Prelude.{IsTrue, ◌↔◌}
-use Rattle.graphs.specs.Lists.{every}
 use Rattle.graphs.specs.Words.{marked, graph_of}
 use Rattle.graphs.specs.Graph.{graph}
-use Rattle.graphs.proofs.Every.{every_at, every_of}
+use Rattle.graphs.proofs.Bridge.{is_every}
 use Rattle.graphs.proofs.Tests.{clash}
 use Rattle.moves.specs.Machine.{Machine}
 use Rattle.moves.specs.Moves.{others_red}
 use Rattle.moves.specs.Words.{IsSet}
 use Rattle.moves.proofs.Stores.{set_long, set_test}
 use Rattle.turn.specs.Others.{OthersRed}
-
--- an answer that is true just where the test holds of each number is `every`
-is_every : (r : Bool) (n : ℕ) (f : ℕ → Bool) → (IsTrue r ↔ ((i : ℕ) → i < n → f i ≡ true)) → r ≡ every n f
-is_every true n f h = sym (every_of n f (h.0 refl))
-is_every false n f h = go (every n f) refl
-  where
-    go : (b : Bool) → every n f ≡ b → false ≡ b
-    go false e = refl
-    go true e = absurd (clash (h.1 (every_at n f e)) refl)
 
 test_of : (h m e r : Bool) → (h ≡ true → m ≡ true → e ≡ false → r ≡ true) → (not (h && m && not e) || r) ≡ true
 test_of true true false r all = all refl refl refl

@@ -102,7 +102,7 @@ impl Stretch<'_, '_, '_, '_, '_> {
         are_red(self.gathered, graph, red, z)
     }
 
-    // 01: "all of R becomes red at once"
+    // 01: "all of R becomes red at once". By index, since of `iter_mut` no more than the length is known.
     pub fn dye(&self, red: &mut [u16])
         requires { length red.old ≡ length self.now.cyan.now }
         ensures len { length red.new ≡ length red.old }
