@@ -44,7 +44,7 @@ fn verdict_after(room: &[u16], n: usize, workers: usize, made: Move) -> Option<V
     }
 }
 
-// Makes worker p's move.
+// Makes worker p's move, counts it, and tells what the run has come to by it, if anything.
 pub fn step(
     room: &mut [u16],
     tally: &mut Tally,
