@@ -93,6 +93,14 @@ pub extern "C" fn skiffplank_run_to_end(
         ≡ run_call (outcome_to_end offsets.now targets.now flags.now workers
         room.old lasso.old tally.old) }
 {
-    let outcome = search::run_to_end(room, lasso, tally, offsets, targets, flags, workers as usize);
+    let outcome = search::run_to_end(
+        room,
+        lasso,
+        tally,
+        offsets,
+        targets,
+        flags,
+        workers as usize,
+    );
     run_answer(outcome)
 }
