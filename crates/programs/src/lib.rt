@@ -5,5 +5,6 @@ mod list;
 mod replay;
 mod skiffplank;
 
+pub use limits::Plan;
 pub use replay::replay_page;
 pub use skiffplank::search_page;
