@@ -1,7 +1,7 @@
 -- Numbered pairs of words, first and second, looked up through chains. A chain goes through the numbers whose pairs are of one bucket, from the
 -- last to the first: the head of a bucket is one more than its last number, the next of a number one more than the last before it of its bucket,
 -- and 0 ends a chain. That all numbers between are of another bucket is the whole invariant.
-use Rattle.std.specs.Prelude.{ℕ, zero, suc, ◌+◌, ◌*◌, ◌%◌, ◌<◌, ◌≤◌, ◌≡◌, Bool, cond, ◌&&◌, Option, Some, None, List, eqb, length, get_or, set}
+use Rattle.std.specs.Prelude.{ℕ, zero, suc, ◌+◌, ◌*◌, ◌%◌, ◌<◌, ◌≤◌, ◌≡◌, Bool, cond, ◌&&◌, Option, Some, None, List, ◌==◌, length, get_or, set}
 
 -- one more than the last number below n that passes the test; 0 if none does
 unfoldable pub last_with : (ℕ → Bool) → ℕ → ℕ
@@ -10,7 +10,7 @@ last_with f (suc n) = cond (f n) (suc n) (last_with f n)
 
 -- the pair of number i is a, b
 unfoldable pub is_pair : List ℕ → List ℕ → ℕ → ℕ → ℕ → Bool
-is_pair first second a b i = eqb (get_or first i 0) a && eqb (get_or second i 0) b
+is_pair first second a b i = get_or first i 0 == a && get_or second i 0 == b
 
 -- the last number below n that passes the test
 abbrev pub found_at : ℕ → Option ℕ
@@ -29,7 +29,7 @@ bucket_of a b = (a % 65521 * 4099 + b % 65521) % buckets
 
 -- the pair of number i is of bucket h
 unfoldable pub in_bucket : List ℕ → List ℕ → ℕ → ℕ → Bool
-in_bucket first second h i = eqb (bucket_of (get_or first i 0) (get_or second i 0)) h
+in_bucket first second h i = bucket_of (get_or first i 0) (get_or second i 0) == h
 
 -- the four lists: the pairs, and the chains through them
 pub record Lists : Type 0 where

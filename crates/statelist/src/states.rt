@@ -10,6 +10,7 @@ use lines::{StateLine, state_line};
 use pairs::Index;
 
 // Reads S lines up to the first line that is none, and gives its place.
+#[tactic(auto, using(crate::proofs::Here::state_here, crate::proofs::Declared::state_past))]
 pub fn read_states(
     text: &[u8],
     held: usize,

@@ -1,11 +1,9 @@
 -- `read_states` meets its contract. What is left of the text means, with the states so far, what the whole text means.
 use mathlib.Core.Path.{◌≡◌, ap}
 use native.Mathlib.Omega.{arith}
-use Prim.Native.Nat.{◌<◌}
-use lib.ListN.{length}
-use Rattle.std.proofs.Common.{Err, rules}
+use Rattle.std.proofs.Common.{Err}
 use Rattle.pairs.proofs.Chain.{inserted_room}
-use Rattle.statelist.proofs.Declared.{label_short, state_past, declared_none, declared_more}
+use Rattle.statelist.proofs.Declared.{label_short, declared_none, declared_more}
 use Rattle.statelist.proofs.Here.{state_here}
 use Rattle.statelist.proofs.states.read_states.Goals as goal
 
@@ -21,12 +19,6 @@ pub overflow_cast-places-in-loop-labels : goal.overflow_cast-places-in-loop-labe
 overflow_cast-places-in-loop-labels c =
     let new = c.in_ok-line.ensures in
     omega (arith, label_short (state_here new.stands))
-
-pub loop-labels-smaller : goal.loop-labels-smaller
-loop-labels-smaller c =
-    let new = c.in_ok-line.ensures in
-    let inside : c.loop-labels.at < length c.args.text.now = search rules in
-    omega (arith, state_past (state_here new.stands))
 
 pub loop-labels-preserved : goal.loop-labels-preserved
 loop-labels-preserved c =
