@@ -5,7 +5,7 @@ use mathlib.Core.Path.{◌≡◌, refl, sym, ap, ◌∙◌}
 use mathlib.Core.Bool.{true}
 use mathlib.Core.List.{List, [], ◌∷◌, ◌++◌, append_assoc}
 use mathlib.Core.Logic.{◌≢◌}
-use lib.ListN.{length}
+use lib.ListN.{length, set}
 use native.Mathlib.Nat.{sub-zero, zero-add}
 use native.Mathlib.Omega.{arith}
 use Rattle.graphs.specs.declared.graph.Graph as checked
@@ -128,7 +128,7 @@ lent_parts x q =
       };
     }
 
--- the parts in one piece again, with the place and depths after them
+-- the parts in one piece again, with the place and depths after them; and so if these are stored where four words were
 pub parts_joined : {k : Stretch} {n : ℕ} {w : Worker} → Holds k n w
     → k.cyan.now
     ++ (k.gathered.now
@@ -137,3 +137,16 @@ pub parts_joined : {k : Stretch} {n : ℕ} {w : Worker} → Holds k n w
 unfolding span
 parts_joined h =
     rw (h.cyan.words, h.R.words, h.outer.words, h.inner.words, h.taken.words, h.place, h.outer.depth, h.inner.depth)
+
+four : (l : List ℕ) (a b c d : ℕ) → length l ≡ 4 → set (set (set (set l 0 a) 1 b) 2 c) 3 d ≡ a ∷ b ∷ c ∷ d ∷ []
+four (x ∷ y ∷ z ∷ t ∷ []) a b c d h = refl
+four l a b c d h = absurd (omega (arith, h))
+
+pub parts_stored : {k : Stretch} {n : ℕ} {w : Worker} → Holds k n w → (last : List ℕ) → length last ≡ 4
+    → k.cyan.now
+    ++ (k.gathered.now
+    ++ (k.outer.now
+    ++ (k.inner.now
+    ++ (k.taken.now ++ set (set (set (set last 0 (kind_word k.place)) 1 (seed_word k.place)) 2 k.outer_depth) 3 k.inner_depth))))
+    ≡ span n w
+parts_stored h last long = rw (four last _ _ _ _ long) (parts_joined h)

@@ -59,6 +59,9 @@ fn turn_in(own: &mut [u16], blue: &mut [u16], red: &mut [u16], graph: &Graph<'_>
     };
     let made = stretch.turn(blue, red, graph, p);
     let [kind, seed] = stretch.place.words();
-    last.copy_from_slice(&[kind, seed, stretch.outer_depth, stretch.inner_depth]);
+    last[0] = kind;
+    last[1] = seed;
+    last[2] = stretch.outer_depth;
+    last[3] = stretch.inner_depth;
     made
 }

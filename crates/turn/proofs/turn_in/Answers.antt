@@ -1,7 +1,7 @@
 -- `turn_in` meets its contract: the parts are the worker's, and joined again they are its stretch after the turn.
 use borrow.Author.Rules.{rules}
 use Rattle.turn.proofs.Rules.{span_fits}
-use Rattle.turn.proofs.Cut.{parted, lent_parts, parts_joined}
+use Rattle.turn.proofs.Cut.{parted, lent_parts, parts_stored}
 use Rattle.turn.proofs.turn_in.Goals as goal
 
 pub turn-made-requires-clause-given : goal.turn-made-requires-clause-given
@@ -24,5 +24,5 @@ returns c =
     c.split_at_mut-inner.ensures.value c.split_at_mut-inner.ensures.front_len
     c.split_at_mut-taken.ensures.value c.split_at_mut-taken.ensures.front_len c.own_in-at.ensures in
     let t = c.turn-made.ensures.turn P m (lent_parts x k) in
-    let joined = parts_joined t.lent.own in
+    let joined = parts_stored t.lent.own c.split_at_mut-taken.result.1.now (search rules) in
     record { move = t.move; lent = record { blue_is = t.lent.blue_is; red_is = t.lent.red_is; own = record { words = search rules } } }
