@@ -26,6 +26,9 @@ slice_first l k = go (below? k (length l))
     go (inl h) = rw (slice_get-get_or l k 0 h, drop-cons l k 0 h)
     go (inr h) = rw (slice_get_past l k h, drop_of_length-le l {i = k} h)
 
+pub past_order : (p k : ℕ) (row : List ℕ) → length row ≤ k → slice_get (turned p row) k ≡ None
+past_order p k row h = slice_get_past (turned p row) k (omega (arith, h, turned_long p row))
+
 -- the list that has a first is that one on others, and the list that has none is empty
 pub first_some : (l : List ℕ) (x : ℕ) → first_of l ≡ Some x → (k : List ℕ) × (l ≡ x ∷ k)
 first_some [] x e = let z : ◌≡◌ {A = ℕ} 0 1 = cc in absurd (omega arith)
