@@ -6,7 +6,7 @@ ghost use Rattle.std.specs.Prelude.{◌≡◌, ◌≤◌, length, IfSome};
 
 use anyhow::{Result, anyhow};
 use asked::{Asked, ask};
-use programs::replay_page;
+use programs::{Plan, replay_page};
 use std::env::{Env, FillError};
 
 fn main(rt: HostRuntime) -> Result<()> {
@@ -19,12 +19,11 @@ fn main(rt: HostRuntime) -> Result<()> {
         "replay: standard input: {e}"
     ))?;
     let mut page = [0u8; 196608];
-    let ending = asked.turns.is_none();
-    let turns = match asked.turns {
-        Some(count) => &turns[..count],
-        None => &[],
+    let plan = match asked.turns {
+        Some(count) => Plan::Turns(&turns[..count]),
+        None => Plan::Rounds,
     };
-    let k = replay_page(&mut page, asked.workers, ending, turns, &text[..n]);
+    let k = replay_page(&mut page, asked.workers, plan, &text[..n]);
     print(&rt, &page[..k])
 }
 

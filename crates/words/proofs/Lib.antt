@@ -1,2 +1,0 @@
--- Clearing a list.
-pub mod Zeros

@@ -1,1 +1,0 @@
--- Nothing: the contracts need no definition of their own.
