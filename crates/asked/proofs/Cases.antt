@@ -1,9 +1,6 @@
 -- What some words ask for, by computing. A row has the two words, as bytes, and what comes of the call.
-use Prim.Native.Nat.{ℕ}
-use mathlib.Core.Path.{◌≡◌, refl}
-use mathlib.Core.List.{List, [], ◌∷◌, map}
+use Rattle.std.proofs.Common.{ℕ, ◌≡◌, refl, List, [], ◌∷◌, map, Some, None}
 use Rattle.graphs.specs.Lists.{all, same}
-use Rattle.std.specs.Prelude.{Some, None}
 use Rattle.asked.specs.Digits.{is_digit, is_number, value_from, count_of}
 use Rattle.asked.specs.Asked.{Call, called, run, is_end, is_dash, asks}
 

@@ -1,12 +1,10 @@
 -- Laws of words of digits: a word is a number if each byte is a digit and there is one; and a word whose first i digits are made numbers.
-use Rattle.std.proofs.Common.{◌≡◌, ◌≤◌, ◌<◌, ◌+◌, ◌*◌, ℕ, suc, min, Bool, true, false, List, [], ◌∷◌, map, fold, length, get_or, refl, sym, ap, ◌∙◌, arith, ◌↔◌, IsTrue, All}
+use Rattle.std.proofs.Common.{◌≡◌, ◌≤◌, ◌<◌, ◌+◌, ◌*◌, ℕ, suc, min, Bool, true, false, List, [], ◌∷◌, map, fold, length, get_or, refl, sym, ap, ◌∙◌, arith, ◌↔◌, IsTrue}
+use Rattle.std.proofs.Common.{All, ◌⊎◌, inl, inr, leb, leb-true, lt-ltb}
 use Rattle.std.proofs.lemmas.Grind.{elements, same_number_lists}
-use mathlib.Core.Logic.{◌⊎◌, inl, inr}
 use lib.ListN.{length-map}
 use native.Mathlib.Nat.{min-eq_left, min-eq_right, le-min}
 use Rattle.std.specs.Char.{is_ascii_digit}
-use lib.Dec.{leb}
-use borrow.Author.Tests.{leb-true, lt-ltb}
 use Rattle.graphs.specs.Lists.{all}
 use Rattle.graphs.proofs.Tests.{and_cases, clash, not_both, below?}
 use Rattle.graphs.proofs.Same.{all_at}

@@ -1,8 +1,5 @@
 -- The contract of `ask` settles the call: two outcomes that it allows are the same.
-use Prim.Native.Nat.{ℕ}
-use mathlib.Core.Path.{◌≡◌, ap}
-use mathlib.Core.List.{List}
-use Rattle.std.specs.Prelude.{Option}
+use Rattle.std.proofs.Common.{ℕ, ◌≡◌, ap, List, Option}
 use Rattle.graphs.proofs.Settled.{settled}
 use Rattle.asked.specs.declared.Asked.{Asked}
 use Rattle.asked.specs.Asked.{Call, called, asks}

@@ -1,11 +1,6 @@
 -- The turns that are asked for stand at the front of the second word.
-use Prim.Native.Nat.{ℕ, ◌≤◌}
-use mathlib.Core.Path.{◌≡◌, sym, subst}
-use mathlib.Core.Bool.{not}
-use mathlib.Core.List.{List}
-use lib.ListN.{length, length-map}
-use native.Mathlib.Omega.{arith}
-use Rattle.std.specs.Prelude.{Option, Some, None, IfSome}
+use Rattle.std.proofs.Common.{ℕ, ◌≤◌, ◌≡◌, sym, subst, not, List, length, arith, Option, Some, None, IfSome}
+use lib.ListN.{length-map}
 use Rattle.graphs.proofs.Tests.{cond_ind}
 use Rattle.asked.specs.declared.Asked.{Asked}
 use Rattle.asked.specs.Digits.{digit_of, is_number}

@@ -1,10 +1,5 @@
 -- A run to the end that is not refused has an answer: its word is not that of "undecided".
-use Prim.Native.Nat.{ℕ}
-use mathlib.Core.Path.{◌≡◌, refl, sym, ap, ◌∙◌}
-use mathlib.Core.List.{List, []}
-use mathlib.Core.Logic.{◌⊎◌, inl, inr, ◌≢◌}
-use lib.ListN.{length}
-use native.Mathlib.Omega.{arith}
+use Rattle.std.proofs.Common.{ℕ, ◌≡◌, refl, sym, ap, ◌∙◌, List, [], ◌⊎◌, inl, inr, ◌≢◌, length, arith}
 use Rattle.graphs.specs.Words.{graph_of}
 use Rattle.graphs.proofs.Tests.{same?}
 use Rattle.moves.specs.declared.Tally.{Tally}

@@ -1,7 +1,5 @@
 -- The contracts are one equation each and settle the call: two calls that one of them allows are the same.
-use mathlib.Core.Path.{◌≡◌, ap}
-use mathlib.Core.List.{List}
-use Prim.Native.Nat.{ℕ}
+use Rattle.std.proofs.Common.{◌≡◌, ap, List, ℕ}
 use Rattle.graphs.proofs.Settled.{settled}
 use Rattle.moves.specs.declared.Tally.{Tally}
 use Rattle.text.specs.Lists.{Outcome}

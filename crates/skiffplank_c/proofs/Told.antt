@@ -1,9 +1,5 @@
 -- What is told fits 32 bits.
-use Prim.Native.Nat.{ℕ}
-use mathlib.Core.Path.{◌≡◌, refl, sym, ap}
-use mathlib.Core.List.{List}
-use native.Mathlib.Omega.{arith}
-use Rattle.std.specs.Prelude.{Result}
+use Rattle.std.proofs.Common.{ℕ, ◌≡◌, refl, sym, ap, List, arith, Result}
 use Rattle.graphs.proofs.Words.{words_are}
 use Rattle.moves.specs.declared.Tally.{Tally}
 use Rattle.limits.specs.declared.RunError.{RunError}
