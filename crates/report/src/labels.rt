@@ -16,6 +16,7 @@ impl<'a> Labels<'a> {
     ghost use Rattle.std.specs.Prelude.{◌≡◌};
     ghost use Rattle.report.specs.Shows.{label_of, Labelled};
 
+    // The label of state s.
     #[tactic(auto, unfolding(text::specs::Labels::label_at))]
     pub fn label(&self, s: u16) -> &'a [u8]
         requires { Labelled self.now s }
