@@ -23,6 +23,7 @@ pub fn digits_off(word: &mut [u8])
     requires { IsTrue (is_number word.old) }
     ensures { word.new ≡ map digit_of word.old }
 {
+    // by index: of a slice after `iter_mut` only the length is known
     for i in 0..word.len() {
         word[i] -= b'0';
     }

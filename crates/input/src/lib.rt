@@ -13,6 +13,7 @@ pub fn all<R: Read>(reader: &mut R, buffer: &mut [u8]) -> io::Result<usize>
     ensures bytes { IfOk result (λ n. Consumes (R.remaining reader.old) (R.remaining reader.new) (take n buffer.new)) }
     ensures end { IfOk result (λ n. n < length buffer.new → IsAtEnd (R.remaining reader.new)) }
 {
+    // a loop of our own: std has none that fills a lent slice up to the end of the input
     let mut n = 0;
     while n < buffer.len() {
         let k = reader.read(&mut buffer[n..])?;

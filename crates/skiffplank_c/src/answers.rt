@@ -1,4 +1,4 @@
-// What a reading and a run came to as the words of an answer. A word that a case does not use is 0.
+// What a reading and a run came to as the words of an answer, whose numbers are those of include/skiffplank.h. A word that a case does not use is 0.
 ghost use Rattle.std.specs.Prelude.{◌≡◌};
 ghost use Rattle.statelist.specs.Told.{told as told_reading};
 ghost use Rattle.ends.specs.Told.{told};
