@@ -4,73 +4,104 @@
 // The cases, and what has to be printed, are made by tests/runs.
 #![tactic(auto)]
 
+use output::Output;
 use search::{Counted, Outcome};
-use std::alloc::{AllocError, Global};
-use std::{array, io};
+use std::array;
+use std::io::Result;
 
-fn main(rt: HostRuntime) -> io::Result<()> {
-    for line in rt.lines(rt.alloc()) {
-        run(&rt, line?.as_str())?;
+// The most turns or words of a list, and the most words that a case lends.
+const MOST_LISTED: usize = 64;
+
+const MOST_ROOM: usize = 400;
+
+const MOST_LASSO: usize = 32;
+
+fn main() {
+    let mut input = io::large_buffer();
+    let n = io::read_full(0, &mut input);
+    let _ = cases(&Output, &input[..n]);
+}
+
+fn cases(out: &impl Print, input: &[u8]) -> Result<()> {
+    for line in input.split_inclusive(|b| *b == b'\n') {
+        run(out, line.strip_suffix(b"\n").unwrap_or(line))?;
     }
     Ok(())
 }
 
 // Lends rooms that hold 9 everywhere, which no word of these cases is to become: so the output shows which words the run has set.
-fn run(rt: &(impl Print + AllocGlobal), case: &str) -> io::Result<()> {
-    let alloc = rt.alloc();
-    let mut parts = case.split('\t');
-    let fields: [Option<&str>; 8] = array::from_fn(|_| parts.next());
-    let [name, workers, room, lasso, turns, offsets, targets, flags] = fields.map(
-        |field| field.unwrap_or(""),
+fn run(out: &impl Print, case: &[u8]) -> Result<()> {
+    let mut fields = case.split(|b| *b == b'\t');
+    let [name, workers, room, lasso, turns, offsets, targets, flags]: [&[u8]; 8] = array::from_fn(
+        |_| fields.next().unwrap_or(&[]),
     );
-    let mut room = vec![in alloc; 9u16; number(room)]?;
-    let mut lasso = vec![in alloc; 9u16; number(lasso)]?;
-    let offsets = list::<u16>(alloc, offsets)?;
-    let targets = list::<u16>(alloc, targets)?;
-    let flags = list::<u16>(alloc, flags)?;
     let workers = number(workers);
-    let Counted { outcome, tally } = if turns == "*" {
-        search::counted_run_to_end(&mut room, &mut lasso, &offsets, &targets, &flags, workers)
+    let (mut rooms, mut lassos) = ([9; MOST_ROOM], [9; MOST_LASSO]);
+    let room = &mut rooms[..number(room).min(MOST_ROOM)];
+    let lasso = &mut lassos[..number(lasso).min(MOST_LASSO)];
+    let (mut o, mut t, mut f) = (
+        [0u16; MOST_LISTED],
+        [0u16; MOST_LISTED],
+        [0u16; MOST_LISTED],
+    );
+    let offsets = list(offsets, &mut o);
+    let targets = list(targets, &mut t);
+    let flags = list(flags, &mut f);
+    let Counted { outcome, tally } = if turns.starts_with(b"*") {
+        search::counted_run_to_end(room, lasso, offsets, targets, flags, workers)
     } else {
-        let turns = list::<u8>(alloc, turns)?;
-        search::counted_run(
-            &mut room, &mut lasso, &turns, &offsets, &targets, &flags, workers,
-        )
+        let mut bytes = [0u8; MOST_LISTED];
+        let turns = list(turns, &mut bytes);
+        search::counted_run(room, lasso, turns, offsets, targets, flags, workers)
     };
-    println!(rt; "{name}")?;
+    out.write_all(name)?;
+    println!(out; "")?;
     match outcome {
-        Ok(Outcome::Cycle { stem, loop_, used }) => println!(rt; "cycle\t{stem}\t{loop_}\t{used}")?,
-        Ok(Outcome::None { used }) => println!(rt; "none\t{used}")?,
-        Ok(Outcome::Undecided { used }) => println!(rt; "undecided\t{used}")?,
-        Err(error) => println!(rt; "refused\t{}", error.number())?,
+        Ok(Outcome::Cycle { stem, loop_, used }) => println!(out;
+            "cycle\t{stem}\t{loop_}\t{used}"
+        )?,
+        Ok(Outcome::None { used }) => println!(out; "none\t{used}")?,
+        Ok(Outcome::Undecided { used }) => println!(out; "undecided\t{used}")?,
+        Err(error) => println!(out; "refused\t{}", error.number())?,
     }
-    println!(rt;
+    println!(out;
         "tally\t{}\t{}\t{}\t{}",
         tally.outer, tally.inner, tally.waits, tally.moves
     )?;
-    words(rt, "room", &room)?;
-    words(rt, "lasso", &lasso)
+    words(out, "room", room)?;
+    words(out, "lasso", lasso)
 }
 
-fn number(field: &str) -> usize {
-    field.parse().unwrap_or(0)
+// A decimal number, of 19 digits at most.
+fn number(field: &[u8]) -> usize {
+    field.iter().fold(
+        0,
+        |n, b| if n < 1000000000000000000 {
+            n * 10 + usize::from(b.saturating_sub(b'0'))
+        } else {
+            n
+        },
+    )
 }
 
-fn list<T: From<u8> + Drop>(alloc: Global, field: &str) -> Result<Vec<T>, AllocError> {
-    field
-        .bytes()
-        .map(|b| T::from(b.saturating_sub(b'0')))
-        .collect(alloc)
+// The list of a field, at the front of `words`.
+fn list<'a, T: From<u8> + Drop>(field: &[u8], words: &'a mut [T]) -> &'a [T] {
+    let n = field.len().min(words.len());
+    let (list, _) = words.split_at_mut(n);
+    for (word, b) in list.iter_mut().zip(field) {
+        *word = T::from(b.saturating_sub(b'0'));
+    }
+    list
 }
 
 // A digit for each word. One above 9 would show as `+`.
-fn words(rt: &impl Print, name: &str, words: &[u16]) -> io::Result<()> {
-    print!(rt; "{name}\t")?;
+fn words(out: &impl Print, name: &str, words: &[u16]) -> Result<()> {
+    print!(out; "{name}\t")?;
     for word in words {
         match word {
-            0..=9 => print!(rt; "{word}")?,
-            _ => print!(rt; "+")?,
+            0..=9 => print!(out; "{word}")?,
+            _ => print!(out; "+")?,
         }
     }
-    println!(rt; "")
+    println!(out; "")
 }

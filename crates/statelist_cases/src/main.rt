@@ -3,62 +3,82 @@
 // The cases, and what has to be printed, are made by tests/texts.
 #![tactic(auto)]
 
+ghost use Rattle.std.specs.Prelude.{◌≡◌, length};
+
+use output::Output;
 use refusals::Refusal;
 use std::fmt::Display;
-use std::io::{self, BufRead};
+use std::io::Result;
 
-fn main(rt: HostRuntime) -> io::Result<()> {
-    for case in rt.reader().split(rt.alloc(), 30) {
-        read_case(&rt, case?.as_slice())?;
-    }
-    read_longest(&rt)
+// The most words that a case lends in one list.
+const MOST_LENT: usize = 64;
+
+fn main() {
+    let mut input = io::large_buffer();
+    let n = io::read_full(0, &mut input);
+    let _ = cases(&Output, &input[..n]);
 }
 
-fn read_case(rt: &(impl Print + AllocGlobal), case: &[u8]) -> io::Result<()> {
-    let mut parts = case.splitn(2, |b| *b == b'\n');
-    let (Some([o, t, f, p, _, name @ ..]), Some(text)) = (parts.next(), parts.next()) else {
+fn cases(out: &impl Print, input: &[u8]) -> Result<()> {
+    for case in input.split_inclusive(|b| *b == 30) {
+        read_case(out, case.strip_suffix(&[30]).unwrap_or(case))?;
+    }
+    read_longest(out)
+}
+
+fn read_case(out: &impl Print, case: &[u8]) -> Result<()> {
+    let [o, t, f, p, _, rest @ ..] = case else {
         return Ok(());
     };
-    rt.write_all(name)?;
-    println!(rt; "")?;
+    let mut parts = rest.splitn(2, |b| *b == b'\n');
+    let (Some(name), Some(text)) = (parts.next(), parts.next()) else {
+        return Ok(());
+    };
+    out.write_all(name)?;
+    println!(out; "")?;
     let lengths = [*o, *t, *f, *p].map(|l| usize::from(l.saturating_sub(b'0')));
-    read(rt, lengths, text)
+    read(out, lengths, text)
 }
 
 // 01: "text over 1,048,576 bytes" is refusal 1. A line of so many `S` has none of the forms.
-fn read_longest(rt: &(impl Print + AllocGlobal)) -> io::Result<()> {
-    let mut text = vec![in rt.alloc(); b'S'; 1048576]?;
-    println!(rt; "1,048,576 bytes")?;
-    read(rt, [3, 2, 2, 4], &text)?;
-    text.push(b'S')?;
-    println!(rt; "1,048,577 bytes")?;
-    read(rt, [3, 2, 2, 4], &text)
+fn read_longest(out: &impl Print) -> Result<()> {
+    println!(out; "1,048,576 bytes")?;
+    read(out, [3, 2, 2, 4], &line::<1048576>())?;
+    println!(out; "1,048,577 bytes")?;
+    read(out, [3, 2, 2, 4], &line::<1048577>())
+}
+
+// So many bytes that their length must be known without counting them.
+fn line<const N: usize>() -> [u8; N]
+    ensures { N ≡ length result }
+{
+    [b'S'; N]
 }
 
 // Lends lists of o, t, f and p words, which are not 0, so that the output shows that they are cleared.
-fn read(rt: &(impl Print + AllocGlobal), [o, t, f, p]: [usize; 4], text: &[u8]) -> io::Result<()> {
-    let alloc = rt.alloc();
-    let mut offsets = vec![in alloc; 7u16; o]?;
-    let mut targets = vec![in alloc; 7u16; t]?;
-    let mut flags = vec![in alloc; 7u16; f]?;
-    let mut places = vec![in alloc; 7u32; p]?;
-    match statelist::read(&mut offsets, &mut targets, &mut flags, &mut places, text) {
-        Ok(size) => println!(rt; "graph\t{}\t{}", size.states, size.transitions)?,
+fn read(out: &impl Print, lengths: [usize; 4], text: &[u8]) -> Result<()> {
+    let [o, t, f, p] = lengths.map(|l| l.min(MOST_LENT));
+    let offsets = &mut [7u16; MOST_LENT][..o];
+    let targets = &mut [7u16; MOST_LENT][..t];
+    let flags = &mut [7u16; MOST_LENT][..f];
+    let places = &mut [7u32; MOST_LENT][..p];
+    match statelist::read(offsets, targets, flags, places, text) {
+        Ok(size) => println!(out; "graph\t{}\t{}", size.states, size.transitions)?,
         Err(error) => {
             let Refusal { number, line } = Refusal::from(error);
-            println!(rt; "refused\t{number}\t{line}")?;
+            println!(out; "refused\t{number}\t{line}")?;
         }
     }
-    list(rt, "offsets", &offsets)?;
-    list(rt, "targets", &targets)?;
-    list(rt, "flags", &flags)?;
-    list(rt, "places", &places)
+    list(out, "offsets", offsets)?;
+    list(out, "targets", targets)?;
+    list(out, "flags", flags)?;
+    list(out, "places", places)
 }
 
-fn list<T: Display>(rt: &impl Print, name: &str, words: &[T]) -> io::Result<()> {
-    print!(rt; "{name}")?;
+fn list<T: Display>(out: &impl Print, name: &str, words: &[T]) -> Result<()> {
+    print!(out; "{name}")?;
     for word in words {
-        print!(rt; "\t{word}")?;
+        print!(out; "\t{word}")?;
     }
-    println!(rt; "")
+    println!(out; "")
 }
