@@ -46,6 +46,12 @@ module _ {k : Stretch} (n : ℕ) (w : Worker) (fits : Fits n w) (long : length k
     pub enter_span : (s x : ℕ) → ((n : ℕ) (w : Worker) → Holds k n w → Holds k' n (enters w s x)) → words k' ≡ span n (enters w s x)
     enter_span s x enter = parts_joined (enter n w holds)
 
+    -- the top of the outer stack leaves it; the place and R stay
+    pub pop_span : (s : ℕ) (u : List ℕ)
+        → ((n : ℕ) (w : Worker) (u : List ℕ) → Holds k n w → w.outer ≡ s ∷ u → Holds k' n (pops w s u w.place w.R))
+        → w.outer ≡ s ∷ u → words k' ≡ span n (pops w s u w.place w.R)
+    pop_span s u pop outer = parts_joined (pop n w u holds outer)
+
     -- move 3, not accepting
     pub leave_span : (s : ℕ) (u : List ℕ)
         → ((n : ℕ) (w : Worker) (u : List ℕ) → Holds k n w → w.place ≡ Outer → w.outer ≡ s ∷ u → Holds k' n (pops w s u (left Outer (is_empty u)) w.R))
