@@ -36,23 +36,25 @@ fn run(out: &impl Print, case: &[u8]) -> Result<()> {
         |_| fields.next().unwrap_or(&[]),
     );
     let workers = number(workers);
-    let (mut rooms, mut lassos) = ([9; MOST_ROOM], [9; MOST_LASSO]);
-    let room = &mut rooms[..number(room).min(MOST_ROOM)];
-    let lasso = &mut lassos[..number(lasso).min(MOST_LASSO)];
-    let (mut o, mut t, mut f) = (
-        [0u16; MOST_LISTED],
-        [0u16; MOST_LISTED],
-        [0u16; MOST_LISTED],
-    );
+    let room = &mut [9; MOST_ROOM][..number(room).min(MOST_ROOM)];
+    let lasso = &mut [9; MOST_LASSO][..number(lasso).min(MOST_LASSO)];
+    let [mut o, mut t, mut f] = [[0u16; MOST_LISTED]; 3];
     let offsets = list(offsets, &mut o);
     let targets = list(targets, &mut t);
     let flags = list(flags, &mut f);
     let Counted { outcome, tally } = if turns.starts_with(b"*") {
         search::counted_run_to_end(room, lasso, offsets, targets, flags, workers)
     } else {
-        let mut bytes = [0u8; MOST_LISTED];
-        let turns = list(turns, &mut bytes);
-        search::counted_run(room, lasso, turns, offsets, targets, flags, workers)
+        let mut bytes = [0; MOST_LISTED];
+        search::counted_run(
+            room,
+            lasso,
+            list(turns, &mut bytes),
+            offsets,
+            targets,
+            flags,
+            workers,
+        )
     };
     out.write_all(name)?;
     println!(out; "")?;
