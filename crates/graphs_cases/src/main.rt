@@ -1,9 +1,7 @@
 // Runs `is_graph` on words that are a graph, and on words that break each clause of refusal 10 at its edge, and prints what it says.
 #![tactic(auto)]
 
-use output::Output;
-use std::array;
-use std::io::Result;
+use std::{array, io};
 
 // A name, and the offsets, targets and flags.
 const SMALL: [(&str, &[u16], &[u16], &[u16]); 25] = [
@@ -69,51 +67,47 @@ const SMALL: [(&str, &[u16], &[u16], &[u16]); 25] = [
     ("flag 65535 last", &[0, 0, 0], &[], &[1, 65535]),
 ];
 
-fn main() {
-    let _ = cases(&Output);
-}
-
-fn cases(out: &impl Print) -> Result<()> {
+fn main(rt: HostRuntime) -> io::Result<()> {
     for (name, offsets, targets, flags) in SMALL {
-        case(out, name, offsets, targets, flags)?;
+        case(&rt, name, offsets, targets, flags)?;
     }
-    largest(out)
+    largest(&rt)
 }
 
-// Prints what `is_graph` says of the words: three slices as it takes them, and not a `Graph`, since they may be none.
+// Prints what `is_graph` says of the words: its three arguments, which may be no graph.
 fn case(
-    out: &impl Print,
+    rt: &impl Print,
     name: &str,
     offsets: &[u16],
     targets: &[u16],
     flags: &[u16],
-) -> Result<()> {
+) -> io::Result<()> {
     let says = if graphs::is_graph(offsets, targets, flags) {
         "graph"
     } else {
         "no graph"
     };
-    println!(out; "{says}\t{name}")
+    println!(rt; "{says}\t{name}")
 }
 
 // The largest graph, and one state or one transition more.
-fn largest(out: &impl Print) -> Result<()> {
+fn largest(rt: &impl Print) -> io::Result<()> {
     case(
-        out,
+        rt,
         "4,096 states and 16,384 transitions",
         &offsets::<4097>(16384),
         &targets::<16384>(),
         &[0; 4096],
     )?;
     case(
-        out,
+        rt,
         "4,097 states",
         &offsets::<4098>(16384),
         &targets::<16384>(),
         &[0; 4097],
     )?;
     case(
-        out,
+        rt,
         "16,385 transitions",
         &offsets::<4097>(16385),
         &targets::<16385>(),

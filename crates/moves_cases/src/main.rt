@@ -2,8 +2,7 @@
 #![tactic(auto)]
 
 use moves::{Move, Place, Tally};
-use output::Output;
-use std::io::Result;
+use std::io;
 
 const PLACES: [Place; 5] = [
     Place::Fresh,
@@ -28,46 +27,42 @@ const MOVES: [(&str, Move); 12] = [
     ("rest", Move::Rest),
 ];
 
-fn main() {
-    let _ = cases(&Output);
-}
-
-fn cases(out: &impl Print) -> Result<()> {
-    println!(out; "move 1")?;
-    places(out, Place::started)?;
-    println!(out; "move 3, not accepting")?;
-    places(out, |place| place.left(false))?;
-    places(out, |place| place.left(true))?;
-    println!(out; "move 3, accepting")?;
-    places(out, |place| place.seeded(7))?;
-    println!(out; "move 5")?;
-    places(out, |place| place.backed(false))?;
-    places(out, |place| place.backed(true))?;
-    println!(out; "move 6")?;
-    places(out, |place| place.painted(false))?;
-    places(out, |place| place.painted(true))?;
-    println!(out; "tally")?;
-    tallies(out)
+fn main(rt: HostRuntime) -> io::Result<()> {
+    println!(rt; "move 1")?;
+    places(&rt, Place::started)?;
+    println!(rt; "move 3, not accepting")?;
+    places(&rt, |place| place.left(false))?;
+    places(&rt, |place| place.left(true))?;
+    println!(rt; "move 3, accepting")?;
+    places(&rt, |place| place.seeded(7))?;
+    println!(rt; "move 5")?;
+    places(&rt, |place| place.backed(false))?;
+    places(&rt, |place| place.backed(true))?;
+    println!(rt; "move 6")?;
+    places(&rt, |place| place.painted(false))?;
+    places(&rt, |place| place.painted(true))?;
+    println!(rt; "tally")?;
+    tallies(&rt)
 }
 
 // Where the move takes each place.
-fn places<F: Fn(Place) -> Place>(out: &impl Print, made: F) -> Result<()>
+fn places<F: Fn(Place) -> Place>(rt: &impl Print, made: F) -> io::Result<()>
     requires { F.IsAlwaysCallable made }
 {
     for place in PLACES {
         match made(place) {
-            Place::Fresh => print!(out; "\tfresh")?,
-            Place::Outer => print!(out; "\touter")?,
-            Place::Inner(s) => print!(out; "\tinner {s}")?,
-            Place::Waiting(s) => print!(out; "\twaiting {s}")?,
-            Place::Done => print!(out; "\tdone")?,
+            Place::Fresh => print!(rt; "\tfresh")?,
+            Place::Outer => print!(rt; "\touter")?,
+            Place::Inner(s) => print!(rt; "\tinner {s}")?,
+            Place::Waiting(s) => print!(rt; "\twaiting {s}")?,
+            Place::Done => print!(rt; "\tdone")?,
         }
     }
-    println!(out; "")
+    println!(rt; "")
 }
 
 // A tally of 1 outer entry, 2 inner entries, 3 waits and 4 moves, after each move.
-fn tallies(out: &impl Print) -> Result<()> {
+fn tallies(rt: &impl Print) -> io::Result<()> {
     let before = Tally {
         outer: 1,
         inner: 2,
@@ -76,7 +71,7 @@ fn tallies(out: &impl Print) -> Result<()> {
     };
     for (name, made) in MOVES {
         let t = before.raised(made);
-        println!(out; "{}{}{}{}\t{name}", t.outer, t.inner, t.waits, t.moves)?;
+        println!(rt; "{}{}{}{}\t{name}", t.outer, t.inner, t.waits, t.moves)?;
     }
     Ok(())
 }

@@ -4,7 +4,6 @@
 // The cases, and what has to be printed, are made by tests/runs.
 #![tactic(auto)]
 
-use output::Output;
 use search::{Counted, Outcome};
 use std::array;
 use std::io::Result;
@@ -16,21 +15,21 @@ const MOST_ROOM: usize = 400;
 
 const MOST_LASSO: usize = 32;
 
-fn main() {
-    let mut input = io::large_buffer();
-    let n = io::read_full(0, &mut input);
-    let _ = cases(&Output, &input[..n]);
+fn main(rt: HostRuntime) -> Result<()> {
+    let mut input = [0u8; 65536];
+    let n = input::all(&mut rt.stdin(), &mut input)?;
+    cases(&rt, &input[..n])
 }
 
-fn cases(out: &impl Print, input: &[u8]) -> Result<()> {
+fn cases(rt: &impl Print, input: &[u8]) -> Result<()> {
     for line in input.split_inclusive(|b| *b == b'\n') {
-        run(out, line.strip_suffix(b"\n").unwrap_or(line))?;
+        run(rt, line.strip_suffix(b"\n").unwrap_or(line))?;
     }
     Ok(())
 }
 
 // Lends rooms that hold 9 everywhere, which no word of these cases is to become: so the output shows which words the run has set.
-fn run(out: &impl Print, case: &[u8]) -> Result<()> {
+fn run(rt: &impl Print, case: &[u8]) -> Result<()> {
     let mut fields = case.split(|b| *b == b'\t');
     let [name, workers, room, lasso, turns, offsets, targets, flags]: [&[u8]; 8] = array::from_fn(
         |_| fields.next().unwrap_or(&[]),
@@ -56,22 +55,20 @@ fn run(out: &impl Print, case: &[u8]) -> Result<()> {
             workers,
         )
     };
-    out.write_all(name)?;
-    println!(out; "")?;
+    rt.write_all(name)?;
+    println!(rt; "")?;
     match outcome {
-        Ok(Outcome::Cycle { stem, loop_, used }) => println!(out;
-            "cycle\t{stem}\t{loop_}\t{used}"
-        )?,
-        Ok(Outcome::None { used }) => println!(out; "none\t{used}")?,
-        Ok(Outcome::Undecided { used }) => println!(out; "undecided\t{used}")?,
-        Err(error) => println!(out; "refused\t{}", error.number())?,
+        Ok(Outcome::Cycle { stem, loop_, used }) => println!(rt; "cycle\t{stem}\t{loop_}\t{used}")?,
+        Ok(Outcome::None { used }) => println!(rt; "none\t{used}")?,
+        Ok(Outcome::Undecided { used }) => println!(rt; "undecided\t{used}")?,
+        Err(error) => println!(rt; "refused\t{}", error.number())?,
     }
-    println!(out;
+    println!(rt;
         "tally\t{}\t{}\t{}\t{}",
         tally.outer, tally.inner, tally.waits, tally.moves
     )?;
-    words(out, "room", room)?;
-    words(out, "lasso", lasso)
+    words(rt, "room", room)?;
+    words(rt, "lasso", lasso)
 }
 
 // A decimal number, of 19 digits at most.
@@ -97,13 +94,13 @@ fn list<'a, T: From<u8> + Drop>(field: &[u8], words: &'a mut [T]) -> &'a [T] {
 }
 
 // A digit for each word. One above 9 would show as `+`.
-fn words(out: &impl Print, name: &str, words: &[u16]) -> Result<()> {
-    print!(out; "{name}\t")?;
+fn words(rt: &impl Print, name: &str, words: &[u16]) -> Result<()> {
+    print!(rt; "{name}\t")?;
     for word in words {
         match word {
-            0..=9 => print!(out; "{word}")?,
-            _ => print!(out; "+")?,
+            0..=9 => print!(rt; "{word}")?,
+            _ => print!(rt; "+")?,
         }
     }
-    println!(out; "")
+    println!(rt; "")
 }
