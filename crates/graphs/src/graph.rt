@@ -11,6 +11,7 @@ pub struct Graph<'a> {
 }
 
 impl<'a> Graph<'a> {
+    // The one place where three lists become one value.
     pub fn new(offsets: &'a [u16], targets: &'a [u16], flags: &'a [u16]) -> Option<Graph<'a>>
         ensures some { IsSome result ↔ (is_graph offsets.now targets.now flags.now ≡ true) }
         ensures offsets { IfSome result (λ g. g.offsets.now ≡ offsets.now) }

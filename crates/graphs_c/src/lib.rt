@@ -4,6 +4,7 @@
 ghost use Rattle.std.specs.Prelude.{◌≡◌};
 ghost use Rattle.graphs.specs.Words.{is_graph};
 
+// Three slices, for C.
 #[unsafe(no_mangle)]
 pub extern "C" fn graphs_c_is_graph(offsets: &[u16], targets: &[u16], flags: &[u16]) -> bool
     ensures { result ≡ is_graph offsets.now targets.now flags.now }

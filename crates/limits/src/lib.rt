@@ -76,7 +76,7 @@ pub fn room_size(n: usize, workers: usize) -> usize
     2 * n + workers * (5 * n + 4)
 }
 
-// The graph of a run that is not refused.
+// The graph of a run that is not refused. Its lists are three arguments, since they may be none.
 #[tactic(auto, using(crate::proofs::Refused::few), unfolding(crate::specs::Refusals::refusal_of))]
 pub fn check<'a>(
     room: usize,

@@ -19,7 +19,7 @@ impl<'a> StateList<'a> {
     ghost use Rattle.statelist.specs.Told.{comes};
     ghost use Rattle.text.specs.Lists.{outcome};
 
-    // Of the four lists that `read` has filled, the parts that the text takes.
+    // Of the four lists that `read` has filled, the parts that the text takes: the one place where they become one value.
     pub fn new(
         offsets: &'a [u16],
         targets: &'a [u16],

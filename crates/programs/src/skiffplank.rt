@@ -24,6 +24,7 @@ pub fn search_page(page: &mut [u8; 16384], text: &[u8]) -> usize
     page.len
 }
 
+// Not one function with `put_replayed` over the number of states: offsets are one more, and an array's length can't be computed from a parameter.
 fn put_searched(page: &mut Page<'_>, text: &[u8])
     requires { page.old.len + 16384 ≤ length page.old.bytes.now }
     ensures { Adds page.old page.new (searched text.now) }

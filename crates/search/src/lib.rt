@@ -14,7 +14,8 @@ use limits::{check, room_size, usual};
 use moves::Tally;
 use steps::{Verdict, step};
 
-// A run by a plan of turns, from the start. The room and the lasso room may be of any lengths and hold anything.
+// A run by a plan of turns, from the start. The room and the lasso room may be of any lengths and hold anything. Here and in the runs below each list is
+// an argument of its own: 01, "Graph, rooms and lasso are lent slices of u16", and so C calls them.
 fn over(
     room: &mut [u16],
     lasso: &mut [u16],
@@ -42,6 +43,7 @@ fn over(
     room[..room_size(n, workers)].fill(0);
     *tally = Tally::default();
     let mut used = 0;
+    // no `for`: the rounds have no last turn, and `used` is told
     while let Some(p) = plan.next(workers, used) {
         let verdict = step(room, tally, &graph, workers, p);
         used += 1;

@@ -23,6 +23,7 @@ pub fn read_states(
     requires none { (labels.old.len ≡ 0) × (flags.old ≡ zeros (length flags.old)) × (places.old ≡ zeros (length places.old)) }
     ensures { StatesRead text.now held flags.new places.new labels.new result }
 {
+    // from line to line, by no index
     let mut at = 0;
     while text.get(at) == Some(&b'S') {
         let line = next_state(text, at, held, labels)?;
