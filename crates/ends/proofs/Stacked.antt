@@ -8,7 +8,6 @@ use lib.Seq.{take_at, drop_at, drop-drop}
 use native.Mathlib.Nat.{add-sub_cancel_left}
 use native.Mathlib.Omega.{arith}
 use borrow.Rule.Slice.PartMut.{put_mid}
-use Rattle.moves.specs.Room.{stretch_at}
 use Rattle.ends.specs.declared.Outcome.TheVariants.{Cycle}
 use Rattle.ends.specs.Lasso.{Stacked, outer_depth, inner_depth, place_down, lasso_in, found_in}
 use Rattle.ends.proofs.Down.{place_in}
@@ -19,13 +18,14 @@ copied_twice : (front next lasso : List ℕ) (x y : ℕ) → length front ≡ x
 copied_twice front next lasso x y e =
     rw (take_at front (drop x lasso) x e, drop_at front (drop x lasso) x e, add-sub_cancel_left x y, drop-drop y x lasso)
 
-module _ {n : ℕ} (p : ℕ) {l lasso : List ℕ} (stacked : Stacked n (stretch_at n p) l lasso) where
-  module _ {outer inner : ℕ} (o : outer ≡ outer_depth n (stretch_at n p) l) (i : inner ≡ inner_depth n (stretch_at n p) l) where
+-- the stretch starts at s, which the code has as a
+module _ {n s a : ℕ} {l lasso : List ℕ} (stacked : Stacked n s l lasso) (start : a ≡ s) where
+  module _ {outer inner : ℕ} (o : outer ≡ outer_depth n s l) (i : inner ≡ inner_depth n s l) where
     abbrev outer_at : ℕ
-    outer_at = stretch_at n p + 2 * n
+    outer_at = a + 2 * n
 
     abbrev inner_at : ℕ
-    inner_at = stretch_at n p + 3 * n + 1
+    inner_at = a + 3 * n + 1
 
     abbrev outer_part : List ℕ
     outer_part = take (outer_at + outer - outer_at) (drop outer_at l)
@@ -36,19 +36,19 @@ module _ {n : ℕ} (p : ℕ) {l lasso : List ℕ} (stacked : Stacked n (stretch_
     outer_long : length outer_part ≡ outer
     outer_long =
         let fits : outer ≤ n = rw o stacked.outer_fits in
-        simp (length-take, length-drop) (omega (arith, stacked.inside, fits))
+        simp (length-take, length-drop) (omega (arith, stacked.inside, fits, start))
 
     pub stacked_stem : (x : ℕ) {stem : ℕ} → stem ≡ place_down (length outer_part) x outer_part → stem ≤ outer
-    stacked_stem x s = rw outer_long at (place_in x outer_part s)
+    stacked_stem x e = rw outer_long at (place_in x outer_part e)
 
     pub stacked_lasso : {front next : List ℕ} → front ≡ outer_part → next ≡ inner_part
-        → put_mid outer (outer + (inner - 1) - outer) (front ++ drop outer lasso) next ≡ lasso_in n (stretch_at n p) l lasso
+        → put_mid outer (outer + (inner - 1) - outer) (front ++ drop outer lasso) next ≡ lasso_in n s l lasso
     unfolding lasso_in
     stacked_lasso f g =
         let copied = copied_twice outer_part inner_part lasso outer (inner - 1) outer_long in
-        rw (← o, ← i, f, g, copied, add-sub_cancel_left outer_at outer, add-sub_cancel_left inner_at (inner - 1)) refl
+        rw (← o, ← i, ← start, f, g, copied, add-sub_cancel_left outer_at outer, add-sub_cancel_left inner_at (inner - 1)) refl
 
     pub stacked_found : (x used : ℕ) {stem : ℕ} → stem ≡ place_down (length outer_part) x outer_part
-        → Cycle stem (outer + (inner - 1) - stem) used ≡ found_in n (stretch_at n p) x used l
+        → Cycle stem (outer + (inner - 1) - stem) used ≡ found_in n s x used l
     unfolding found_in
-    stacked_found x used s = rw (← o, ← i, s, add-sub_cancel_left outer_at outer) refl
+    stacked_found x used e = rw (← o, ← i, ← start, e, add-sub_cancel_left outer_at outer) refl

@@ -5,6 +5,8 @@ ghost use Rattle.std.specs.Prelude.{◌≡◌, length};
 ghost use Rattle.moves.specs.Room.{stretch_at};
 ghost use Rattle.ends.specs.Lasso.{Stacked, place_down, lasso_in, found_in};
 
+use moves::{own_at, stretch_at};
+
 // The answer of a run, with the turns used.
 #[derive(Clone, Copy, Debug, PartialEq, Eq)]
 pub enum Outcome {
@@ -28,9 +30,10 @@ pub fn show(room: &[u16], lasso: &mut [u16], n: usize, p: usize, x: u16, used: u
     ensures lasso { lasso.new ≡ lasso_in n (stretch_at n p) room.now lasso.old }
     ensures found { result ≡ found_in n (stretch_at n p) x used room.now }
 {
-    let a = 2 * n + p * (5 * n + 4);
-    let outer = usize::from(room[a + 5 * n + 2]);
-    let inner = usize::from(room[a + 5 * n + 3]) - 1;
+    let own = own_at(room, n, p);
+    let outer = usize::from(own.outer);
+    let inner = usize::from(own.inner) - 1;
+    let a = stretch_at(n, p);
     let o = a + 2 * n;
     let i = a + 3 * n + 1;
     lasso[..outer].copy_from_slice(&room[o..o + outer]);

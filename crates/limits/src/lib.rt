@@ -7,6 +7,7 @@ ghost use Rattle.limits.specs.Plans.{listed, next_in};
 ghost use Rattle.limits.specs.Refusals.{most_workers, workers_fit, turns_fit, refusal_of, number_of, Passed, usual};
 
 use graphs::Graph;
+use moves::stretch_at;
 
 // Why a run is refused, with 01's number.
 #[derive(Clone, Copy, Debug, PartialEq, Eq)]
@@ -68,12 +69,12 @@ fn workers_fit(workers: usize) -> bool
     (1..=MOST_WORKERS).contains(&workers)
 }
 
-// The words of the room that a run needs.
+// The words of the room that a run needs: as many as stand before the stretch of a worker after the last.
 pub fn room_size(n: usize, workers: usize) -> usize
     requires { (n ≤ 4096) × (workers ≤ most_workers) }
     ensures { result ≡ room_size n workers }
 {
-    2 * n + workers * (5 * n + 4)
+    stretch_at(n, workers)
 }
 
 // The graph of a run that is not refused. Its lists are three arguments, since they may be none.

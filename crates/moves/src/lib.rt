@@ -9,7 +9,7 @@ ghost use Rattle.moves.specs.Place.{started, left, seeded, backed, painted};
 ghost use Rattle.moves.specs.Room.{words_of, place_of};
 ghost use Rattle.moves.specs.Tally.{raised, Low};
 
-pub use own::{Own, own_in};
+pub use own::{Own, own_at, own_in, stretch_at};
 
 // 01: "not started, outer search, inner search with its seed, waiting with its seed, or done"
 #[derive(Clone, Copy, Debug, PartialEq, Eq)]

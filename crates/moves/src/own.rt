@@ -1,6 +1,7 @@
-// The last four words of a worker's stretch (docs/ROOM.md): its place, and how deep its two stacks are.
-ghost use Rattle.std.specs.Prelude.{◌≡◌, ◌+◌, ◌≤◌, length};
-ghost use Rattle.moves.specs.Own.{own_in};
+// Where a worker's stretch starts in the room, and its last four words (docs/ROOM.md): its place, and how deep its two stacks are.
+ghost use Rattle.std.specs.Prelude.{◌≡◌, ◌+◌, ◌<◌, ◌≤◌, ◌^◌, length};
+ghost use Rattle.moves.specs.Room.{stretch, stretch_at};
+ghost use Rattle.moves.specs.Own.{own_in, own_at};
 
 use crate::Place;
 
@@ -22,4 +23,20 @@ pub fn own_in(room: &[u16], at: usize) -> Own
         outer: room[at + 2],
         inner: room[at + 3],
     }
+}
+
+// The start of worker q's stretch in the room of a machine of n states.
+pub fn stretch_at(n: usize, q: usize) -> usize
+    requires { (stretch n < 2 ^ 64) × (stretch_at n q < 2 ^ 64) }
+    ensures { result ≡ stretch_at n q }
+{
+    2 * n + q * (5 * n + 4)
+}
+
+// Reads worker q's four words.
+pub fn own_at(room: &[u16], n: usize, q: usize) -> Own
+    requires { stretch_at n q + stretch n ≤ length room.now }
+    ensures { result ≡ own_at room.now n q }
+{
+    own_in(room, stretch_at(n, q) + 5 * n)
 }

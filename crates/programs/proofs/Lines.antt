@@ -18,7 +18,8 @@ use Rattle.std.specs.Prelude.{codes}
 use Rattle.page.specs.Numbers.{fields, numbers_line}
 use Rattle.page.proofs.Long.{flat_map_long, fields_long, numbers_long}
 use Rattle.report.specs.Report.{refused_line, state_line, state_lines, tally_line, cycle_lines, run_lines, place_field, label_field, seed_field}
-use Rattle.report.specs.Report.{worker_line, worker_lines, own_at, used_lines}
+use Rattle.moves.specs.Own.{own_at}
+use Rattle.report.specs.Report.{worker_line, worker_lines, used_lines}
 
 pub refused_long : (number line : ℕ) → length (refused_line number line) ≤ 50
 unfolding refused_line

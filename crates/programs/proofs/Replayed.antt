@@ -21,7 +21,7 @@ use Rattle.theory.proofs.Ends.{rounds_named}
 use Rattle.theory.proofs.Rooms.{run_fits}
 use Rattle.theory.proofs.Demands.{graph_of_words, seeds_inside}
 use Rattle.moves.specs.declared.own.Own.{Own}
-use Rattle.moves.specs.Own.{own_of}
+use Rattle.moves.specs.Own.{own_of, own_at}
 use Rattle.moves.proofs.Owned.{own_seen}
 use Rattle.limits.specs.Refusals.{refusal_of}
 use Rattle.limits.proofs.Refused.{Fine, fine}
@@ -37,7 +37,7 @@ use Rattle.search.specs.Outcomes.{Lent, left, unless, outcome, outcome_to_end}
 use Rattle.search.proofs.Whole.{unless_0, unless_not}
 use Rattle.std.specs.Prelude.{codes}
 use Rattle.page.specs.Numbers.{numbers_line}
-use Rattle.report.specs.Report.{refused_line, run_lines, seed_field, label_field, worker_line, worker_lines, own_at, used_lines, end_lines}
+use Rattle.report.specs.Report.{refused_line, run_lines, seed_field, label_field, worker_line, worker_lines, used_lines, end_lines}
 use Rattle.programs.specs.Replay.{ran, named, replay_lines, lines_of, replayed}
 use Rattle.programs.proofs.Answers.{answer_lines, told_lines, flat_map_same, run_same}
 

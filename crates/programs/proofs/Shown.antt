@@ -15,7 +15,8 @@ use Rattle.text.specs.Labels.{label_at}
 use Rattle.limits.specs.declared.RunError.{RunError}
 use Rattle.std.specs.Prelude.{Result}
 use Rattle.search.proofs.Promises.{Call, refuses, cycle_shown, cycle_states, room_long, workers_few, worker_is, seed_states}
-use Rattle.report.specs.Report.{own_at, end_lines}
+use Rattle.moves.specs.Own.{own_at}
+use Rattle.report.specs.Report.{end_lines}
 use Rattle.report.specs.declared.labels.Labels.{Labels}
 use Rattle.report.specs.Shows.{label_of, Shows, Seeded, ShowsWorkers, ShowsEnd}
 use Rattle.programs.specs.Given.{Given}

@@ -1,12 +1,11 @@
 -- The lines that the programs print, as bytes: 01 "The program", and those that `replay` adds. A state's label is what `label` gives.
-use Rattle.std.specs.Prelude.{ℕ, ◌+◌, ◌*◌, List, [], ◌∷◌, ◌++◌, take, drop, codes, flat_map}
+use Rattle.std.specs.Prelude.{ℕ, List, [], ◌∷◌, ◌++◌, take, drop, codes, flat_map}
 use Rattle.moves.specs.declared.Place.{Place}
 use Rattle.moves.specs.declared.Place.TheVariants.{Fresh, Outer, Inner, Waiting, Done}
 use Rattle.moves.specs.declared.Tally.{Tally}
 use Rattle.moves.specs.Run.{up_from}
-use Rattle.moves.specs.Room.{stretch_at}
 use Rattle.moves.specs.declared.own.Own.{Own}
-use Rattle.moves.specs.Own.{own_in}
+use Rattle.moves.specs.Own.{own_at}
 use Rattle.ends.specs.Told.{Told, told_cycle, told_none, told_undecided, told_refusal}
 use Rattle.text.specs.Lists as reader
 use Rattle.page.specs.Numbers.{fields, numbers_line}
@@ -68,10 +67,6 @@ worker_line label q own =
 -- the lines of the workers 0 to P − 1
 unfoldable pub worker_lines : (ℕ → List ℕ) → (ℕ → Own) → ℕ → List ℕ
 worker_lines label own P = flat_map (λ q. worker_line label q (own q)) (up_from 0 P)
-
--- worker q's place and depths, as the room of a machine of n states has them (docs/ROOM.md)
-abbrev pub own_at : List ℕ → ℕ → ℕ → Own
-own_at room n q = own_in room (stretch_at n q + 5 * n)
 
 -- what `replay` adds to an answer: the turns used, and P workers; nothing to a refusal
 unfoldable pub used_lines : (ℕ → List ℕ) → List ℕ → ℕ → ℕ → ℕ → List ℕ

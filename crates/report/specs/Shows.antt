@@ -8,7 +8,7 @@ use Rattle.moves.specs.Room.{room_size}
 use Rattle.ends.specs.Told.{Told, told_cycle, told_none, told_undecided, told_refusal}
 use Rattle.text.specs.Labels.{label_at}
 use Rattle.report.specs.declared.labels.Labels.{Labels}
-use Rattle.report.specs.Report.{own_at}
+use Rattle.moves.specs.Own.{own_at}
 
 -- the label of s
 abbrev pub label_of : Labels → ℕ → List ℕ

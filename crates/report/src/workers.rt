@@ -1,11 +1,12 @@
 // A line for each worker: its number, place and stack depths, and its seed's label.
 ghost use Rattle.std.specs.Prelude.{◌≡◌};
+ghost use Rattle.moves.specs.Own.{own_at};
 ghost use Rattle.page.specs.Page.{Holds, Adds};
 ghost use Rattle.report.specs.Shows.{label_of, Seeded, ShowsWorkers};
-ghost use Rattle.report.specs.Report.{own_at, place_field, label_field, seed_field, worker_line, worker_lines};
+ghost use Rattle.report.specs.Report.{place_field, label_field, seed_field, worker_line, worker_lines};
 
 use crate::Labels;
-use moves::{Own, Place, own_in};
+use moves::{Own, Place, own_at};
 use page::Page;
 
 // The workers below p. The room is the form of a machine of n states.
@@ -16,12 +17,7 @@ pub fn put_workers(page: &mut Page<'_>, labels: &Labels<'_>, room: &[u16], n: us
     ensures { Adds page.old page.new (worker_lines (label_of labels.now) (own_at room.now n) p) }
 {
     for q in 0..p {
-        put_worker(
-            page,
-            labels,
-            q,
-            own_in(room, 2 * n + q * (5 * n + 4) + 5 * n),
-        );
+        put_worker(page, labels, q, own_at(room, n, q));
     }
 }
 

@@ -7,7 +7,7 @@ ghost use Rattle.steps.specs.Verdict.{all_done_in, verdict_in};
 ghost use Rattle.steps.specs.Steps.{Due, Steps};
 
 use graphs::Graph;
-use moves::{Move, Tally};
+use moves::{Move, Tally, stretch_at};
 use turn::turn;
 
 // What a run has come to.
@@ -26,7 +26,7 @@ fn all_done(room: &[u16], n: usize, workers: usize) -> bool
     ensures { result ≡ all_done_in n workers room.now }
 {
     for q in 0..workers {
-        if room[2 * n + q * (5 * n + 4) + 5 * n] != 4 {
+        if room[stretch_at(n, q) + 5 * n] != 4 {
             return false;
         }
     }

@@ -5,12 +5,19 @@ use Rattle.ends.proofs.show.Goals as goal
 
 pub overflow_sub-result : goal.overflow_sub-result
 overflow_sub-result c =
-    let low = stacked_stem c.args.p c.requires c.from-outer.ensures c.from-inner.ensures _ c.place_down-stem.ensures in
+    let outer = rw c.own_at-own.ensures at c.from-outer.ensures in
+    let inner = rw c.own_at-own.ensures at c.from-inner.ensures in
+    let low = stacked_stem c.requires c.stretch_at-a.ensures outer inner _ c.place_down-stem.ensures in
     omega (arith, low)
 
 pub returns-clause-lasso : goal.returns-clause-lasso
 returns-clause-lasso c =
-    stacked_lasso c.args.p c.requires c.from-outer.ensures c.from-inner.ensures c.copy_from_slice.ensures.after c.copy_from_slice-2.ensures.after
+    let outer = rw c.own_at-own.ensures at c.from-outer.ensures in
+    let inner = rw c.own_at-own.ensures at c.from-inner.ensures in
+    stacked_lasso c.requires c.stretch_at-a.ensures outer inner c.copy_from_slice.ensures.after c.copy_from_slice-2.ensures.after
 
 pub returns-clause-found : goal.returns-clause-found
-returns-clause-found c = stacked_found c.args.p c.requires c.from-outer.ensures c.from-inner.ensures _ _ c.place_down-stem.ensures
+returns-clause-found c =
+    let outer = rw c.own_at-own.ensures at c.from-outer.ensures in
+    let inner = rw c.own_at-own.ensures at c.from-inner.ensures in
+    stacked_found c.requires c.stretch_at-a.ensures outer inner _ _ c.place_down-stem.ensures

@@ -1,7 +1,8 @@
 -- The lines of the workers below q are written.
 use Rattle.page.specs.Page.{Adds}
 use Rattle.report.specs.Shows.{label_of}
-use Rattle.report.specs.Report.{own_at, worker_lines}
+use Rattle.moves.specs.Own.{own_at}
+use Rattle.report.specs.Report.{worker_lines}
 use Rattle.report.proofs.workers.put_workers.Given as goal
 
 abbrev pub invariant-loop-q : goal.invariant-loop-q
