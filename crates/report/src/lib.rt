@@ -22,14 +22,18 @@ use statelist::ReadError;
 use workers::put_workers;
 
 #[tactic(auto, unfolding(crate::specs::Report::refused_line))]
-pub fn put_refusal(page: &mut Page<'_>, refusal: Refusal)
+pub fn put_refusal(page: &mut Page<'_>, number: u64, line: u64)
+    requires { Holds page.old (refused_line number line) }
+    ensures { Adds page.old page.new (refused_line number line) }
+{
+    page.put_numbers(b"refused", &[number, line]);
+}
+
+fn put_refused(page: &mut Page<'_>, refusal: Refusal)
     requires { Holds page.old (refused_line refusal.number refusal.line) }
     ensures { Adds page.old page.new (refused_line refusal.number refusal.line) }
 {
-    page.put_numbers(
-        b"refused",
-        &[u64::from(refusal.number), refusal.line as u64],
-    );
+    put_refusal(page, u64::from(refusal.number), refusal.line as u64);
 }
 
 // The refusal that a reading came to.
@@ -37,7 +41,7 @@ pub fn put_reading(page: &mut Page<'_>, error: ReadError)
     requires { Holds page.old (reading_line (told_reading (Err error))) }
     ensures { Adds page.old page.new (reading_line (told_reading (Err error))) }
 {
-    put_refusal(page, error.into());
+    put_refused(page, error.into());
 }
 
 // What a run came to: the answer with stem and loop, and the tally; or the refusal.
@@ -59,7 +63,7 @@ pub fn put_run(
         }
         Ok(Outcome::None { .. }) => put_answer(page, b"answer\tnone\n", tally),
         Ok(Outcome::Undecided { .. }) => put_answer(page, b"answer\tundecided\n", tally),
-        Err(error) => put_refusal(page, error.into()),
+        Err(error) => put_refused(page, error.into()),
     }
 }
 
