@@ -90,9 +90,6 @@ module _ {words : Graph·rust} {offsets targets flags : List ℕ} {P : ℕ} (l l
   pub few_workers : P ≤ most_workers
   few_workers = known.few
 
-  pub some_workers : 0 < P
-  some_workers = known.some
-
   pub room_fits : room_size n P ≤ length l
   room_fits = subst (λ f. room_size (length f) P ≤ length l) (sym passed.flags_same) known.room_fits
 

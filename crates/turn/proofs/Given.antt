@@ -9,13 +9,11 @@ use Rattle.graphs.specs.Graph.{Graph, graph, Sound}
 use Rattle.graphs.specs.Words.{graph_of, is_graph}
 use Rattle.graphs.proofs.Words.{words_are, words_sound}
 use Rattle.moves.specs.Machine.{Machine}
-use Rattle.moves.specs.Moves.{turn}
 use Rattle.moves.specs.Room.{stretch, stretch_at, AllFit}
 use Rattle.moves.proofs.Stretch.{stretch_inside}
 use Rattle.moves.proofs.Words.{Seen, long}
 use Rattle.theory.specs.Turns.{AllShallow}
 use Rattle.theory.proofs.Depth.{local_shallow}
-use Rattle.theory.proofs.Run.{turn_shallow}
 use Rattle.turn.specs.Turn.{Formed, Poised}
 
 pub record Given (offsets targets flags : List ℕ) (P p : ℕ) (m : Machine) (rest l : List ℕ) : Type 0 where
@@ -42,10 +40,6 @@ module _ {offsets targets flags : List ℕ} {P p : ℕ} {m : Machine} {rest l : 
 
   shallow : AllShallow g m
   shallow q = local_shallow sound (x.formed.inv.local q)
-
-  -- the same after the turn
-  pub shallow_after : AllShallow g (turn g p m).machine
-  shallow_after = turn_shallow g P sound (omega (arith, x.named)) p m x.named x.formed.inv
 
   pub fits_of : (k : Machine) → AllShallow g k → AllFit n P k
   unfolding graph_of graph
