@@ -24,7 +24,7 @@ pub enum Outcome {
     },
 }
 
-// Worker p's stacks become the lasso on taking x: stem and then loop go to the front of the lasso room.
+// Worker p's stacks become the lasso on taking x: stem and then loop go to the front of the lasso room. Room and n: as for `own_at`.
 pub fn show(room: &[u16], lasso: &mut [u16], n: usize, p: usize, x: u16, used: usize) -> Outcome
     requires { Stacked n (stretch_at n p) room.now lasso.old }
     ensures lasso { lasso.new ≡ lasso_in n (stretch_at n p) room.now lasso.old }

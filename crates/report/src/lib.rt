@@ -100,7 +100,8 @@ fn put_tally(page: &mut Page<'_>, tally: Tally)
     );
 }
 
-// What `replay` adds to an answer: the turns used, and each of p workers; nothing to a refusal. The room is the form of a machine of n states.
+// What `replay` adds to an answer: the turns used, and each of p workers; nothing to a refusal. The room is the form of a machine of n states, two arguments as for
+// `own_at`.
 #[tactic(auto, using(page::proofs::Written::laws))]
 pub fn put_end(
     page: &mut Page<'_>,

@@ -9,7 +9,7 @@ use crate::Labels;
 use moves::{Own, Place, own_at};
 use page::Page;
 
-// The workers below p. The room is the form of a machine of n states.
+// The workers below p. The room is the form of a machine of n states, two arguments as for `own_at`.
 #[tactic(auto, using(crate::proofs::Below::laws))]
 pub fn put_workers(page: &mut Page<'_>, labels: &Labels<'_>, room: &[u16], n: usize, p: usize)
     requires labels { ShowsWorkers labels.now room.now n p }
