@@ -15,7 +15,7 @@ pub const MOST_STATES: usize = 4096;
 
 pub const MOST_TRANSITIONS: usize = 16384;
 
-// 01: "Words are a graph if ..". Any words of any lengths; the time is in proportion to N + E. Three arguments and no `Graph`, since the words may be none.
+// 01: "Words are a graph if ..". Any words of any lengths; the time is in proportion to N + E. Three arguments and no `Graph`, since the words may be no graph.
 #[tactic(auto, using(crate::proofs::Words::checked), unfolding(crate::specs::Words::is_graph))]
 pub fn is_graph(offsets: &[u16], targets: &[u16], flags: &[u16]) -> bool
     ensures { result ≡ is_graph offsets.now targets.now flags.now }

@@ -20,6 +20,7 @@ pub enum RunError {
 }
 
 impl RunError {
+    // 01's number. A name tells more here than a conversion.
     pub fn number(self) -> u32
         ensures { result ≡ number_of self }
     {
@@ -77,7 +78,7 @@ pub fn room_size(n: usize, workers: usize) -> usize
     stretch_at(n, workers)
 }
 
-// The graph of a run that is not refused. Its lists are three arguments, since they may be none.
+// The graph of a run that is not refused. Its lists are three arguments, since they may be no graph.
 #[tactic(auto, using(crate::proofs::Refused::few), unfolding(crate::specs::Refusals::refusal_of))]
 pub fn check<'a>(
     room: usize,

@@ -73,7 +73,7 @@ impl Place {
         }
     }
 
-    // The two words of a place in the room: its kind, and the seed or 0.
+    // The two words of a place in the room: its kind, and the seed or 0. Not by `From`: this is the room's form of a place (docs/ROOM.md), one of many.
     pub fn words(self) -> [u16; 2]
         ensures { result ≡ words_of self }
     {

@@ -1,4 +1,4 @@
-// A number as its decimal digits. By hand, since the edits `ten_is_a_digit` and `digits_from_one` are of these lines.
+// A number as its decimal digits. By hand, since the edits `ten_is_a_digit` and `digits_from_one` change these lines.
 use crate::Page;
 
 impl Page<'_> {

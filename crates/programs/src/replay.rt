@@ -38,7 +38,7 @@ fn put_replayed(page: &mut Page<'_>, workers: usize, plan: Plan<'_>, text: &[u8]
             let list = StateList::new(&offsets, &targets, &flags, &places, text, size);
             put_replay_lines(page, workers, plan, &list);
         }
-        Err(error) => put_reading(page, error),
+        Err(error) => put_reading(page, Err(error)),
     }
 }
 
@@ -62,6 +62,7 @@ fn put_replay_lines(page: &mut Page<'_>, workers: usize, plan: Plan<'_>, list: &
     );
 }
 
+// By the two names that search has for its one run.
 #[tactic(auto, unfolding(crate::specs::Replay::ran))]
 fn run(
     room: &mut [u16],

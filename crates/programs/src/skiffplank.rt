@@ -30,7 +30,7 @@ fn put_searched(page: &mut Page<'_>, text: &[u8])
     ensures { Adds page.old page.new (searched text.now) }
 {
     if MOST_INPUT < text.len() {
-        return put_reading(page, ReadError::TooLong);
+        return put_reading(page, Err(ReadError::TooLong));
     }
     let mut offsets = [0; 257];
     let mut targets = [0; 1024];
@@ -41,7 +41,7 @@ fn put_searched(page: &mut Page<'_>, text: &[u8])
             let list = StateList::new(&offsets, &targets, &flags, &places, text, size);
             put_search_lines(page, &list);
         }
-        Err(error) => put_reading(page, error),
+        Err(error) => put_reading(page, Err(error)),
     }
 }
 

@@ -40,7 +40,7 @@ fn words(rt: &impl Env, turns: &mut [u8]) -> Option<Asked>
     }
 }
 
-// So many bytes that their length must be known without counting them.
+// The contract gives the length, so that the check need not unfold the array.
 fn zeroes<const N: usize>() -> [u8; N]
     ensures { N ≡ length result }
 {

@@ -4,7 +4,7 @@
 mod labels;
 mod workers;
 
-ghost use Rattle.std.specs.Prelude.{◌++◌, Err};
+ghost use Rattle.std.specs.Prelude.{◌++◌};
 ghost use Rattle.ends.specs.Told.{told};
 ghost use Rattle.page.specs.Page.{Holds, Adds};
 ghost use Rattle.statelist.specs.Told.{told as told_reading};
@@ -18,7 +18,7 @@ use limits::RunError;
 use moves::Tally;
 use page::Page;
 use refusals::Refusal;
-use statelist::ReadError;
+use statelist::{ReadError, Size};
 use workers::put_workers;
 
 #[tactic(auto, unfolding(crate::specs::Report::refused_line))]
@@ -36,12 +36,15 @@ fn put_refused(page: &mut Page<'_>, refusal: Refusal)
     put_refusal(page, u64::from(refusal.number), refusal.line as u64);
 }
 
-// The refusal that a reading came to.
-pub fn put_reading(page: &mut Page<'_>, error: ReadError)
-    requires { Holds page.old (reading_line (told_reading (Err error))) }
-    ensures { Adds page.old page.new (reading_line (told_reading (Err error))) }
+// The refusal that a reading came to; nothing for a graph.
+#[tactic(auto, using(page::proofs::Written::laws))]
+pub fn put_reading(page: &mut Page<'_>, reading: Result<Size, ReadError>)
+    requires { Holds page.old (reading_line (told_reading reading)) }
+    ensures { Adds page.old page.new (reading_line (told_reading reading)) }
 {
-    put_refused(page, error.into());
+    if let Err(error) = reading {
+        put_refused(page, error.into());
+    }
 }
 
 // What a run came to: the answer with stem and loop, and the tally; or the refusal.

@@ -9,8 +9,8 @@ ghost use Rattle.search.specs.Plans.{outcome_by};
 
 pub use ends::Outcome;
 use ends::show;
-pub use limits::{Plan, RunError};
-use limits::{check, room_size, usual};
+pub use limits::RunError;
+use limits::{Plan, check, room_size, usual};
 use moves::Tally;
 use steps::{Verdict, step};
 
@@ -118,7 +118,7 @@ pub struct Counted {
     pub tally: Tally,
 }
 
-// The same two runs with a tally of their own, which starts at 0 and is handed back.
+// The same two runs with a tally of their own, which starts at 0 and is handed back. Two names, as docs/STATEMENTS.md has them, for two calls of `over`.
 pub fn counted_run(
     room: &mut [u16],
     lasso: &mut [u16],

@@ -71,7 +71,7 @@ fn run(rt: &impl Print, case: &[u8]) -> Result<()> {
     words(rt, "lasso", lasso)
 }
 
-// A decimal number, of 19 digits at most.
+// A decimal number, of 19 digits at most. Not by `parse`, which refuses what a case may hold: bytes that are no digits count by how far they are above `0`.
 fn number(field: &[u8]) -> usize {
     field.iter().fold(
         0,

@@ -47,7 +47,7 @@ fn read_longest(rt: &impl Print) -> Result<()> {
     read(rt, [3, 2, 2, 4], &line::<1048577>())
 }
 
-// So many bytes that their length must be known without counting them.
+// The contract gives the length, so that the check need not unfold the array.
 fn line<const N: usize>() -> [u8; N]
     ensures { N ≡ length result }
 {

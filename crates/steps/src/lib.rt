@@ -19,7 +19,8 @@ pub enum Verdict {
     Found { state: u16 },
 }
 
-// A loop: of `(0..workers).all(..)`, with a call that gives the index, the clause stayed open.
+// A loop: of `(0..workers).all(..)`, with a call that gives the index, the clause stayed open. 4 is the kind word of a worker that is done (docs/ROOM.md), and
+// room and n are two arguments, as for `own_at`.
 #[tactic(auto, unfolding(crate::specs::Verdict::all_done_in, graphs::specs::Lists::every))]
 fn all_done(room: &[u16], n: usize, workers: usize) -> bool
     requires { room_size n workers ≤ length room.now }

@@ -45,7 +45,7 @@ impl Stretch<'_, '_, '_, '_, '_> {
         self.outer[usize::from(self.outer_depth) - 1]
     }
 
-    // Not one function with `outer_top` over a stack: each says its top of the worker's own stack, and both searches would have to say it again.
+    // Not one function with `outer_top` over a stack: each contract names the worker's own stack, as those of the tests below name its own set.
     #[tactic(auto, using(moves::proofs::Stores::reads))]
     pub fn inner_top(&self) -> u16
         requires { Topped self.now.inner.now self.now.inner_depth }

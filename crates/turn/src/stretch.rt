@@ -1,5 +1,5 @@
 // A worker's stretch of the room (docs/ROOM.md), cut into its parts, and what each move stores in it. A move is said of the worker: whichever worker the
-// parts hold before it, they hold that worker after the move. The shared colours are not in a stretch.
+// parts hold before it, after it they hold what the move makes of that worker. The shared colours are not in a stretch.
 ghost use Rattle.std.specs.Prelude.{◌≡◌, ◌≤◌, length};
 
 use moves::Place;
