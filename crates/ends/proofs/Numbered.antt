@@ -1,20 +1,12 @@
 -- What is told tells the outcome.
 use mathlib.Core.Path.{◌≡◌, refl, sym, ap, ◌∙◌}
-use mathlib.Core.Bool.{cond}
-use Prim.Native.Nat.{ℕ}
-use lib.Dec.{eqb}
 use Rattle.std.specs.Prelude.{Result, Ok, Err}
 use Rattle.limits.specs.declared.RunError.{RunError}
 use Rattle.limits.specs.declared.RunError.TheVariants.{NoWorkers, NoGraph, RoomShort, LassoShort, NoSuchWorker}
+use Rattle.limits.proofs.Settled.{error_of}
 use Rattle.ends.specs.Told.{Told, told_cycle, told_none, told_undecided, told_refusal, told}
 use Rattle.ends.specs.declared.Outcome.{Outcome}
 use Rattle.ends.specs.declared.Outcome.TheVariants.{Cycle, None, Undecided}
-
--- the refusal with 01's number
-abbrev error_of : ℕ → RunError
-error_of number =
-    cond (eqb number 9) NoWorkers
-    (cond (eqb number 10) NoGraph (cond (eqb number 11) RoomShort (cond (eqb number 12) LassoShort NoSuchWorker)))
 
 -- the outcome that is told
 abbrev untold : Told → Result Outcome RunError

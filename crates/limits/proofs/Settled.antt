@@ -13,7 +13,7 @@ use Rattle.limits.specs.declared.RunError.TheVariants.{NoWorkers, NoGraph, RoomS
 use Rattle.limits.specs.Refusals.{refusal_of, number_of, Passed}
 
 -- the refusal with 01's number
-abbrev error_of : ℕ → RunError
+abbrev pub error_of : ℕ → RunError
 error_of number =
     cond (eqb number 9) NoWorkers
     (cond (eqb number 10) NoGraph (cond (eqb number 11) RoomShort (cond (eqb number 12) LassoShort NoSuchWorker)))
