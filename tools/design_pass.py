@@ -70,7 +70,7 @@ for path in sorted(glob.glob(f'{folder}/crates/*/proofs/**/*.antt', recursive=Tr
 # lemmas that nothing cites
 everything = ''
 for path in glob.glob(f'{folder}/crates/**/*', recursive=True) + glob.glob(f'{folder}/docs/*.md') + [f'{folder}/README.md']:
-    if os.path.isfile(path) and re.search(r'\.(antt|rt|md|edit)$', path):
+    if '/out/' not in path and os.path.isfile(path) and re.search(r'\.(antt|rt|md|edit)$', path):
         if not path.endswith('DESIGN-PASS.md') and not path.endswith('PORT.md'):
             everything += open(path).read() + '\n'
 words = collections.Counter(re.findall(r"[\w'?]+", everything))
