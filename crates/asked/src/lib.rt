@@ -8,8 +8,8 @@ ghost use Rattle.asked.specs.Asked.{called, asks};
 
 use digits::{count_of, digits_off, is_number};
 
-// A run by so many workers: to the end, or over so many turns, which now stand at the front of the second word. A number and no slice, since the word is
-// lent to be changed.
+// A run by so many workers: to the end, or over so many turns, which now stand at the front of the second word. A number and no slice: the
+// contract tells the whole word too, as it is left.
 #[derive(Clone, Copy, Debug, PartialEq, Eq)]
 pub struct Asked {
     pub workers: usize,

@@ -34,7 +34,7 @@ pub fn all_below(words: &[u16], bound: usize) -> bool
     words.iter().all(|&word| usize::from(word) < bound)
 }
 
-// 01: "no state has the same target twice". Each target is stamped in a table with its source, counted from 1: by number, which is the stamp.
+// 01: "no state has the same target twice". Each target is stamped in a table with its source, counted from 1. The loop is by number, since the number is the stamp.
 #[tactic(auto, using(crate::proofs::Words::rising_to), unfolding(crate::specs::Lists::every, crate::specs::Words::none_twice, crate::specs::Words::successors))]
 pub fn none_twice(offsets: &[u16], targets: &[u16], n: usize) -> bool
     requires { Fit offsets.now targets.now n }

@@ -1,4 +1,4 @@
-// A graph in lent words, checked once: what holds `Graph` has words that `is_graph` says are one.
+// A graph in lent words, checked once: whoever has a `Graph` has words of which `is_graph` holds.
 ghost use Rattle.std.specs.Prelude.{◌≡◌, ◌<◌, ◌↔◌, length, true, All, IsTrue, IsSome, IfSome};
 ghost use Rattle.graphs.specs.Words.{is_graph, successors, marked};
 

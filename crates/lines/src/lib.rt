@@ -19,7 +19,7 @@ pub struct Label {
     pub second: usize,
 }
 
-// A state line: its label, its flag's word, and the place after its line feed.
+// A state line: its label, its flag as the lent list holds it, 0 or 1, and the place after its line feed.
 #[derive(Clone, Copy, Debug, PartialEq, Eq)]
 pub struct StateLine {
     pub label: Label,

@@ -33,7 +33,7 @@ pub fn stretch_at(n: usize, q: usize) -> usize
     2 * n + q * (5 * n + 4)
 }
 
-// Reads worker q's four words. The room and n are two arguments, here and above: the room is lent on changed and unchanged, and who lends it has n from the graph.
+// Reads worker q's four words. The room and n are two arguments: the room is lent on changed and unchanged, and who lends it has n from the graph.
 pub fn own_at(room: &[u16], n: usize, q: usize) -> Own
     requires { stretch_at n q + stretch n ≤ length room.now }
     ensures { result ≡ own_at room.now n q }

@@ -5,6 +5,7 @@ ghost use Rattle.std.specs.Prelude.{length, ◌≤◌};
 
 mod number;
 
+// Not `Clone`: it holds the bytes to be changed.
 #[derive(Drop)]
 pub struct Page<'a> {
     pub bytes: &'a mut [u8],

@@ -8,8 +8,8 @@ ghost use Rattle.pairs.specs.Pairs.{is_pair, found, buckets, bucket_of, Chain, l
 pub const BUCKETS: usize = 16384;
 
 // At most N pairs, numbered from 0. A chain goes through the numbers of one bucket, from the last to the first: `head` and `next` hold one more
-// than a number, and 0 ends the chain. A pair's words are in two lists, since the
-// definitions (`is_pair`, `found`, `inserted`) speak of two.
+// than a number, and 0 ends the chain. A pair's words are in two lists, since the definitions (`is_pair`, `found`, `inserted`) speak of two. Not `Clone`:
+// an index is never copied.
 #[derive(Drop)]
 pub struct Index<const N: usize> {
     pub first: [usize; N],

@@ -126,6 +126,7 @@ pub fn put_end(
     }
 }
 
+// Room and n: as for `own_at`.
 #[tactic(auto, using(page::proofs::Written::laws), unfolding(crate::specs::Report::used_lines))]
 fn put_used(page: &mut Page<'_>, labels: &Labels<'_>, room: &[u16], n: usize, p: usize, used: usize)
     requires labels { ShowsWorkers labels.now room.now n p }

@@ -15,7 +15,7 @@ use moves::Tally;
 use steps::{Verdict, step};
 
 // A run by a plan of turns, from the start. The room and the lasso room may be of any lengths and hold anything. Here and in the runs below each list is
-// an argument of its own: 01, "Graph, rooms and lasso are lent slices of u16", and so C calls them.
+// an argument of its own: 01, "Graph, rooms and lasso are lent slices of u16", and so C calls two of them.
 fn over(
     room: &mut [u16],
     lasso: &mut [u16],
@@ -56,7 +56,7 @@ fn over(
     Ok(Outcome::Undecided { used })
 }
 
-// A run over a turn list.
+// A run over a turn list. This and `run_to_end` are two names, since C calls both.
 #[tactic(auto, unfolding(crate::specs::Outcomes::outcome))]
 pub fn run(
     room: &mut [u16],
@@ -118,7 +118,8 @@ pub struct Counted {
     pub tally: Tally,
 }
 
-// The same two runs with a tally of their own, which starts at 0 and is handed back. Two names, as docs/STATEMENTS.md has them, for two calls of `over`.
+// The same two runs with a tally of their own, which starts at 0 and is handed back. Two names, as docs/STATEMENTS.md
+// has them: a call of `run`, and one of `run_to_end`.
 pub fn counted_run(
     room: &mut [u16],
     lasso: &mut [u16],

@@ -1,4 +1,5 @@
-// The library for C and Rust to link: the reader and the two runs. A slice passes as a pointer and a length. include/skiffplank.h declares them for C.
+// The library for C and Rust to link: the reader and the two runs. Each list is an argument of its own, which passes as a
+// pointer and a length. include/skiffplank.h declares them for C.
 #![tactic(auto)]
 
 mod answers;

@@ -36,7 +36,7 @@ pub enum ReadError {
 }
 
 // Reads a text into four lists of any lengths. Unused words become 0, and so do all words if the text is refused. 01: "The reader fills four lent lists",
-// an argument each, here and in what passes all four on.
+// an argument each, here and in what passes them on.
 pub fn read(
     offsets: &mut [u16],
     targets: &mut [u16],

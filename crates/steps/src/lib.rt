@@ -19,8 +19,8 @@ pub enum Verdict {
     Found { state: u16 },
 }
 
-// A loop: of `(0..workers).all(..)`, with a call that gives the index, the clause stayed open. 4 is the kind word of a worker that is done (docs/ROOM.md), and
-// room and n are two arguments, as for `own_at`.
+// Whether every worker is done: 4 is the kind word of one that is (docs/ROOM.md). A loop, since with `(0..workers).all(..)`, whose closure calls `stretch_at`, the
+// clause was not proved. Room and n are two arguments, as for `own_at`.
 #[tactic(auto, unfolding(crate::specs::Verdict::all_done_in, graphs::specs::Lists::every))]
 fn all_done(room: &[u16], n: usize, workers: usize) -> bool
     requires { room_size n workers ≤ length room.now }
@@ -34,7 +34,7 @@ fn all_done(room: &[u16], n: usize, workers: usize) -> bool
     true
 }
 
-// Read from the room after the move.
+// Read from the room after the move; room and n as for `own_at`.
 fn verdict_after(room: &[u16], n: usize, workers: usize, made: Move) -> Option<Verdict>
     requires { room_size n workers ≤ length room.now }
     ensures { result ≡ verdict_in n workers made room.now }

@@ -1,4 +1,4 @@
-// What a turn reads of its worker's stretch: the tops of the stacks, the successor that is next, the sets, and whether the seed's other states are red.
+// What a turn reads of its worker's stretch: the tops of the stacks, the successor that is next, the sets, and whether R's accepting states other than the seed are red.
 ghost use Rattle.std.specs.Prelude.{ℕ, ◌≡◌, ◌<◌, ◌↔◌, Bool, IsTrue, length};
 ghost use Rattle.moves.specs.Words.{IsSet};
 ghost use Rattle.turn.specs.Others.{OthersRed};
@@ -85,6 +85,7 @@ impl Stretch<'_, '_, '_, '_, '_> {
         self.is_cyan(x) || is_in(blue, x)
     }
 
+    // Not one function with the test above: see `inner_top`.
     pub fn is_gathered_or_in(&self, red: &[u16], x: u16) -> bool
         requires state { x < length self.now.cyan.now }
         requires red { length red.now ≡ length self.now.cyan.now }

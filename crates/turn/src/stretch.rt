@@ -4,7 +4,7 @@ ghost use Rattle.std.specs.Prelude.{◌≡◌, ◌≤◌, length};
 
 use moves::Place;
 
-// The parts are lent, each of a word for every state. The last four words of the stretch are values here, and whoever cuts the stretch stores them back.
+// The parts are lent to be changed, so that it is not `Clone`, each with a word for every state. The last four words of the stretch are values here, and whoever cuts the stretch stores them back.
 #[derive(Drop)]
 pub struct Stretch<'c, 'g, 'o, 'i, 't> {
     pub cyan: &'c mut [u16],
@@ -118,6 +118,7 @@ impl Stretch<'_, '_, '_, '_, '_> {
     }
 
     // Move 4: x is taken from s, and joins R and the inner stack.
+    // Not one function with `enter`: each contract names the worker's own set and stack.
     #[tactic(auto, using(moves::proofs::Stores::stores))]
     pub fn join(&mut self, s: u16, x: u16)
         requires from { s < length self.old.cyan.now }
