@@ -1,3 +1,4 @@
+-- `Kind::of` meets its contract: the table has at each byte the kind of that byte.
 use mathlib.Core.Path.{ap, ◌∙◌}
 use native.Mathlib.Omega.{arith}
 use Rattle.lines.specs.Bytes.{kind_of}
