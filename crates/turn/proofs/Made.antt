@@ -15,9 +15,9 @@ use Rattle.turn.proofs.Rules.{rule_is}
 
 module _ {offsets targets flags : List ℕ} {P p : ℕ} {m : Machine} {rest l l' : List ℕ} {r : Move} (x : Given offsets targets flags P p m rest l)
     (t : Turned offsets targets flags p P m rest l' r) where
-  pub chosen_is : (made : Made) → Rule (graph_of offsets targets flags) p m made → r ≡ made.move
-  chosen_is made rule = t.move ∙ ap (λ a. a.move) (rule_is (graph_of offsets targets flags) p m (x.formed.inv.local p) made rule)
+  pub turn_chosen_is : (made : Made) → Rule (graph_of offsets targets flags) p m made → r ≡ made.move
+  turn_chosen_is made rule = t.move ∙ ap (λ a. a.move) (rule_is (graph_of offsets targets flags) p m (x.formed.inv.local p) made rule)
 
-  pub made_is : (made : Made) → Rule (graph_of offsets targets flags) p m made → l' ≡ room (length flags) P made.machine ++ rest
-  made_is made rule =
+  pub turn_made_is : (made : Made) → Rule (graph_of offsets targets flags) p m made → l' ≡ room (length flags) P made.machine ++ rest
+  turn_made_is made rule =
       t.room' ∙ ap (λ a. room (length flags) P a.machine ++ rest) (rule_is (graph_of offsets targets flags) p m (x.formed.inv.local p) made rule)

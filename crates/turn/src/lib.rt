@@ -10,16 +10,18 @@ ghost use Rattle.std.specs.Prelude.{ℕ, ◌≡◌, ◌≤◌, length};
 ghost use Rattle.moves.specs.Machine.{Machine};
 ghost use Rattle.moves.specs.Room.{stretch};
 ghost use Rattle.turn.specs.Lent.{LentOf, SomeLent, LentAfter, IsSpan};
-ghost use Rattle.turn.specs.Turn.{Poised, Turns};
+ghost use Rattle.turn.specs.Turn.{Poised, Turns, WordsTurned};
 
 use crate::stretch::Stretch;
 use graphs::Graph;
 use moves::{Move, own_in};
 
-// 01: "A turn makes one move". The room begins with the form of a machine; at exit it is the form of the machine after worker p's move.
+// 01: "A turn makes one move". The room begins with the form of a machine; at exit it is the form of the machine after worker p's move. That move is
+// the one that the words give (`chosen`), and the room has what making it writes (`made_words`).
 pub fn turn(room: &mut [u16], graph: &Graph<'_>, p: usize) -> Move
     requires { Poised graph.now.offsets.now graph.now.targets.now graph.now.flags.now p room.old }
-    ensures { Turns graph.now.offsets.now graph.now.targets.now graph.now.flags.now p room.old room.new result }
+    ensures turn { Turns graph.now.offsets.now graph.now.targets.now graph.now.flags.now p room.old room.new result }
+    ensures words { WordsTurned graph.now.offsets.now graph.now.targets.now graph.now.flags.now p room.old room.new result }
 {
     let n = graph.states();
     let size = 5 * n + 4;

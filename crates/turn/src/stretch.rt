@@ -1,5 +1,6 @@
-// A worker's stretch of the room (docs/ROOM.md), cut into its parts, and what each move stores in it. A move is said of the worker: whichever worker the
-// parts hold before it, after it they hold what the move makes of that worker. The shared colours are not in a stretch.
+// A worker's stretch of the room (docs/ROOM.md), cut into its parts, and what each move stores in it. A move is said of the words, whatever the parts hold
+// (the clauses `stores`), and of the worker: whichever worker the parts hold before it, after it they hold what the move makes of that worker (the clauses
+// `worker`). The shared colours are not in a stretch.
 ghost use Rattle.std.specs.Prelude.{◌≡◌, ◌≤◌, length};
 
 use moves::Place;
@@ -30,6 +31,7 @@ impl Stretch<'_, '_, '_, '_, '_> {
     ghost use Rattle.moves.specs.Changes.{is_empty, starts, takes, enters, pops, seeds, joins, backs};
     ghost use Rattle.theory.specs.Invariant.{Calm};
     ghost use Rattle.turn.specs.Holds.{Holds, SameParts};
+    ghost use Rattle.turn.specs.Stores.{own_in_parts, words, start_words, take_words, enter_words, pop_words, leave_words, seed_words, join_words, back_words, paint_words};
 
     // Move 1.
     #[tactic(auto, using(moves::proofs::Stores::stores))]
@@ -37,6 +39,7 @@ impl Stretch<'_, '_, '_, '_, '_> {
         requires some { 0 < length self.old.cyan.now }
         ensures worker { (n : ℕ) (w : Worker) → Holds self.old n w → w.place ≡ Fresh → w.outer ≡ []
             → Holds self.new n (starts w) }
+        ensures stores { words self.new ≡ start_words (length self.old.cyan.now) (own_in_parts self.old) (words self.old) }
         ensures same { SameParts self.old self.new }
     {
         self.cyan[0] = 1;
@@ -51,6 +54,7 @@ impl Stretch<'_, '_, '_, '_, '_> {
         requires from { s < length self.old.cyan.now }
         requires count { get_or self.old.taken.now s 0 < 65535 }
         ensures worker { (n : ℕ) (w : Worker) → Holds self.old n w → Holds self.new n (takes w s) }
+        ensures stores { words self.new ≡ take_words (length self.old.cyan.now) s (words self.old) }
         ensures same { SameParts self.old self.new }
     {
         self.taken[usize::from(s)] += 1;
@@ -64,6 +68,7 @@ impl Stretch<'_, '_, '_, '_, '_> {
         requires count { get_or self.old.taken.now s 0 < 65535 }
         requires room { self.old.outer_depth < length self.old.cyan.now }
         ensures worker { (n : ℕ) (w : Worker) → Holds self.old n w → Holds self.new n (enters w s x) }
+        ensures stores { words self.new ≡ enter_words (length self.old.cyan.now) (own_in_parts self.old) s x (words self.old) }
         ensures same { SameParts self.old self.new }
     {
         self.taken[usize::from(s)] += 1;
@@ -80,6 +85,7 @@ impl Stretch<'_, '_, '_, '_, '_> {
         requires deep { self.old.outer_depth ≤ length self.old.cyan.now }
         ensures worker { (n : ℕ) (w : Worker) (u : List ℕ) → Holds self.old n w → w.outer ≡ s ∷ u
             → Holds self.new n (pops w s u w.place w.R) }
+        ensures stores { words self.new ≡ pop_words (length self.old.cyan.now) (own_in_parts self.old) s self.old.place (words self.old) }
         ensures same { SameParts self.old self.new }
     {
         let top = usize::from(s);
@@ -97,6 +103,7 @@ impl Stretch<'_, '_, '_, '_, '_> {
         requires deep { self.old.outer_depth ≤ length self.old.cyan.now }
         ensures worker { (n : ℕ) (w : Worker) (u : List ℕ) → Holds self.old n w → w.place ≡ Outer → w.outer ≡ s ∷ u
             → Holds self.new n (pops w s u (left Outer (is_empty u)) w.R) }
+        ensures stores { words self.new ≡ leave_words (length self.old.cyan.now) (own_in_parts self.old) s (words self.old) }
         ensures same { SameParts self.old self.new }
     {
         self.pop(s);
@@ -108,6 +115,7 @@ impl Stretch<'_, '_, '_, '_, '_> {
     pub fn seed(&mut self, s: u16)
         requires top { s < length self.old.cyan.now }
         ensures worker { (n : ℕ) (w : Worker) → Holds self.old n w → w.place ≡ Outer → Calm w → Holds self.new n (seeds w s) }
+        ensures stores { words self.new ≡ seed_words (length self.old.cyan.now) (own_in_parts self.old) s (words self.old) }
         ensures same { SameParts self.old self.new }
     {
         self.gathered[usize::from(s)] = 1;
@@ -126,6 +134,7 @@ impl Stretch<'_, '_, '_, '_, '_> {
         requires count { get_or self.old.taken.now s 0 < 65535 }
         requires room { self.old.inner_depth < length self.old.cyan.now }
         ensures worker { (n : ℕ) (w : Worker) → Holds self.old n w → Holds self.new n (joins w s x) }
+        ensures stores { words self.new ≡ join_words (length self.old.cyan.now) (own_in_parts self.old) s x (words self.old) }
         ensures same { SameParts self.old self.new }
     {
         self.taken[usize::from(s)] += 1;
@@ -142,6 +151,7 @@ impl Stretch<'_, '_, '_, '_, '_> {
         requires deep { self.old.inner_depth ≤ length self.old.cyan.now }
         ensures worker { (n : ℕ) (w : Worker) (z : ℕ) (u : List ℕ) → Holds self.old n w → w.place ≡ Inner z → w.inner ≡ s ∷ u
             → Holds self.new n (backs w z s u) }
+        ensures stores { words self.new ≡ back_words (length self.old.cyan.now) (own_in_parts self.old) s (words self.old) }
         ensures same { SameParts self.old self.new }
     {
         self.inner_depth -= 1;
@@ -158,6 +168,7 @@ impl Stretch<'_, '_, '_, '_, '_> {
         requires deep { self.old.outer_depth ≤ length self.old.cyan.now }
         ensures worker { (n : ℕ) (w : Worker) (u : List ℕ) → Holds self.old n w → w.place ≡ Waiting z → w.outer ≡ z ∷ u
             → Holds self.new n (pops w z u (painted (Waiting z) (is_empty u)) empty) }
+        ensures stores { words self.new ≡ paint_words (length self.old.cyan.now) (own_in_parts self.old) z (words self.old) }
         ensures same { SameParts self.old self.new }
     {
         self.pop(z);

@@ -1,0 +1,7 @@
+-- `join` meets its contract: its stores are those of move 4, whatever the parts hold.
+use borrow.Author.Rules.{rules}
+use Rattle.turn.proofs.Put.{join_put}
+use Rattle.turn.proofs.stretch.Stretch.join.Goals as goal
+
+pub returns-clause-stores : goal.returns-clause-stores
+returns-clause-stores c = let put = join_put c.args.self.now c.args.s c.args.x c.requires.from c.requires.to c.requires.room in search rules
