@@ -1,7 +1,7 @@
 // The kinds of bytes, and the table of them. 01: "The reader sorts bytes by a table of 256 byte kinds (upper, lower, digit, mark, tab, line
 // feed, other)".
 ghost use Rattle.std.specs.Prelude.{◌≡◌};
-ghost use Rattle.lines.specs.Bytes.{kind_of, of_label};
+ghost use Rattle.lines.specs.Bytes.{kind_of, kind_table, of_label};
 
 #[derive(Clone, Copy, Debug, PartialEq, Eq)]
 pub enum Kind {
@@ -50,12 +50,19 @@ static KINDS: [Kind; 256] = [
     __, __, __, __, __, __, __, __, __, __, __, __, __, __, __, __, // F_
 ];
 
+// The kinds of all bytes. The table is lent, not copied.
+pub fn kind_table() -> &'static [Kind; 256]
+    ensures { result.now ≡ kind_table }
+{
+    &KINDS
+}
+
 impl Kind {
     // The kind of a byte, by the table.
     pub fn of(byte: u8) -> Kind
         ensures { result ≡ kind_of byte }
     {
-        KINDS[usize::from(byte)]
+        kind_table()[usize::from(byte)]
     }
 
     // A byte of this kind may stand in a label. 01: "A–Z, a–z, 0–9, `-`, `_`, `.`"

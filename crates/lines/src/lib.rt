@@ -7,7 +7,7 @@ mod scan;
 ghost use Rattle.std.specs.Prelude.{◌≡◌, ◌≤◌, drop};
 ghost use Rattle.lines.specs.Found.{state_found, transition_found};
 
-pub use kinds::Kind;
+pub use kinds::{Kind, kind_table};
 use scan::{first_label, front};
 
 // A label: its length, and its bytes as two words, the first eight bytes and the rest of them, in base 256. Different labels have different

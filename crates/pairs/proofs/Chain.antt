@@ -80,6 +80,14 @@ module _ (first second : List ℕ) (n a b : ℕ) where
           rw (get_or-set_other first n i a 0 ne, get_or-set_other second n i b 0 ne)
           (get_or-set_other next n i _ 0 ne ∙ c.goes i (omega arith) ∙ sym (last_same _ i (omega arith)))
 
+-- where a pair was put the chains go through it too
+pub chain_inserted : (l : Lists) (n a b : ℕ) {first second head next : List ℕ} → lists first second head next ≡ inserted l n a b
+    → Chain l.firsts l.seconds l.heads l.nexts n → n < length l.firsts → n < length l.seconds → n < length l.nexts
+    → Chain first second head next (n + 1)
+chain_inserted l n a b put c in_first in_second in_next =
+    rw (ap (λ l. l.firsts) put, ap (λ l. l.seconds) put, ap (λ l. l.heads) put, ap (λ l. l.nexts) put)
+    (chain_more l.firsts l.seconds n a b l.heads l.nexts c in_first in_second in_next)
+
 -- where a pair was put there was room for it
 pub inserted_room : (l : Lists) (n a b : ℕ) {first second head next : List ℕ} {k : ℕ} → lists first second head next ≡ inserted l n a b → k ≡ n + 1
     → Chain first second head next k → (n < length l.firsts) × (n < length l.seconds)

@@ -36,19 +36,19 @@ impl<const N: usize> Index<N> {
         }
     }
 
-    // The last number whose pair is a, b. Along a chain, by no index.
+    // The last number whose pair is a, b.
     pub fn find(&self, a: usize, b: usize) -> Option<usize>
         ensures { result ≡ found (is_pair self.now.first self.now.second a b) self.now.len }
     {
-        let mut at = usize::from(self.head[bucket(a, b)]);
-        while at > 0 {
-            let i = at - 1;
-            if self.is_pair(i, a, b) {
-                return Some(i);
-            }
-            at = usize::from(self.next[i]);
-        }
-        None
+        find(
+            &self.first,
+            &self.second,
+            &self.head,
+            &self.next,
+            self.len,
+            a,
+            b,
+        )
     }
 
     // The pair a, b becomes the next number, at the front of its chain.
@@ -58,23 +58,72 @@ impl<const N: usize> Index<N> {
             ≡ inserted (lists self.old.first self.old.second self.old.head self.old.next) self.old.len a b }
         ensures len { self.new.len ≡ self.old.len + 1 }
     {
-        let h = bucket(a, b);
         let n = self.len;
-        self.first[n] = a;
-        self.second[n] = b;
-        self.next[n] = self.head[h];
-        self.head[h] = (n + 1) as u16;
+        insert(
+            &mut self.first,
+            &mut self.second,
+            &mut self.head,
+            &mut self.next,
+            n,
+            a,
+            b,
+        );
         self.len = n + 1;
     }
+}
 
-    // The pair of number i is a, b.
-    #[tactic(auto, unfolding(crate::specs::Pairs::is_pair))]
-    fn is_pair(&self, i: usize, a: usize, b: usize) -> bool
-        requires { i < self.now.len }
-        ensures { result ≡ is_pair self.now.first self.now.second a b i }
-    {
-        self.first[i] == a && self.second[i] == b
+// The last number below n whose pair is a, b. Along a chain, by no index.
+pub fn find(
+    first: &[usize],
+    second: &[usize],
+    head: &[u16],
+    next: &[u16],
+    n: usize,
+    a: usize,
+    b: usize,
+) -> Option<usize>
+    requires { Chain first.now second.now head.now next.now n }
+    ensures { result ≡ found (is_pair first.now second.now a b) n }
+{
+    let mut at = usize::from(head[bucket(a, b)]);
+    while at > 0 {
+        let i = at - 1;
+        if is_pair(first, second, i, a, b) {
+            return Some(i);
+        }
+        at = usize::from(next[i]);
     }
+    None
+}
+
+// The pair a, b becomes number n, at the front of its chain, in lists that need not hold chains.
+pub fn insert(
+    first: &mut [usize],
+    second: &mut [usize],
+    head: &mut [u16],
+    next: &mut [u16],
+    n: usize,
+    a: usize,
+    b: usize,
+)
+    requires { (length head.old ≡ buckets) × (n < length first.old) × (n < length second.old) × (n < length next.old) × (n < 65535) }
+    ensures { lists first.new second.new head.new next.new
+        ≡ inserted (lists first.old second.old head.old next.old) n a b }
+{
+    let h = bucket(a, b);
+    first[n] = a;
+    second[n] = b;
+    next[n] = head[h];
+    head[h] = (n + 1) as u16;
+}
+
+// The pair of number i is a, b.
+#[tactic(auto, unfolding(crate::specs::Pairs::is_pair))]
+fn is_pair(first: &[usize], second: &[usize], i: usize, a: usize, b: usize) -> bool
+    requires { (i < length first.now) × (i < length second.now) }
+    ensures { result ≡ is_pair first.now second.now a b i }
+{
+    first[i] == a && second[i] == b
 }
 
 #[tactic(auto, unfolding(crate::specs::Pairs::bucket_of))]

@@ -1,4 +1,4 @@
--- What the conversions promise is one equation each and settles the call: two refusals that one allows are the same.
+-- What `of_reading`, `of_run` and the conversions promise is one equation each and settles the call: two refusals that one allows are the same.
 use Rattle.std.proofs.Common.{◌≡◌}
 use Rattle.std.specs.Prelude.{Result}
 use Rattle.graphs.proofs.Settled.{settled}

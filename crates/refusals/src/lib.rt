@@ -1,12 +1,16 @@
-// 01's number and line of a refusal: "a definition gives this paper's number and values for each of its cases".
+// 01's number and line of a refusal, and of what a reading or a run came to: "a definition gives this paper's number and values for each of its cases".
 #![tactic(auto)]
 
-ghost use Rattle.refusals.specs.Refusals.{GivesReading, GivesRun};
+ghost use Rattle.std.specs.Prelude.{◌≡◌};
+ghost use Rattle.ends.specs.Told.{told};
+ghost use Rattle.statelist.specs.Told.{told as told_reading};
+ghost use Rattle.refusals.specs.Refusals.{of_reading, of_run, GivesReading, GivesRun};
 
+use ends::Outcome;
 use limits::RunError;
-use statelist::ReadError;
+use statelist::{ReadError, Size};
 
-// 01's number of a refusal, and its line, 0 if it names none.
+// 01's number of a refusal, and its line, 0 if it names none. Number 0 is no refusal.
 #[derive(Clone, Copy, Debug, PartialEq, Eq)]
 pub struct Refusal {
     pub number: u32,
@@ -39,5 +43,25 @@ impl From<RunError> for Refusal {
             number: error.number(),
             line: 0,
         }
+    }
+}
+
+// The refusal that a reading came to; number and line are 0 for a graph.
+pub fn of_reading(reading: Result<Size, ReadError>) -> Refusal
+    ensures { result ≡ of_reading (told_reading reading) }
+{
+    match reading {
+        Ok(_graph) => Refusal { number: 0, line: 0 },
+        Err(error) => Refusal::from(error),
+    }
+}
+
+// The refusal that a run came to; number and line are 0 for an answer.
+pub fn of_run(outcome: Result<Outcome, RunError>) -> Refusal
+    ensures { result ≡ of_run (told outcome) }
+{
+    match outcome {
+        Ok(_answer) => Refusal { number: 0, line: 0 },
+        Err(error) => Refusal::from(error),
     }
 }

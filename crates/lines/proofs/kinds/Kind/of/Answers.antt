@@ -6,4 +6,4 @@ use Rattle.lines.proofs.Table.{table_at}
 use Rattle.lines.proofs.kinds.Kind.of.Goals as goal
 
 pub returns : goal.returns
-returns c = table_at c.from.result _ (omega arith) ∙ ap kind_of c.from.ensures
+returns c = table_at _ c.from.result _ c.kind_table.ensures (omega arith) ∙ ap kind_of c.from.ensures
