@@ -1,6 +1,6 @@
--- Laws of words of digits: a word is a number if each byte is a digit and there is one; and a word whose first i digits are made numbers.
+-- Laws of words of digits: a word is a number if each byte is a digit and there is one; what it counts; and its digits made numbers.
 use Rattle.std.proofs.Common.{◌≡◌, ◌≤◌, ◌<◌, ◌+◌, ◌*◌, ℕ, suc, min, Bool, true, false, List, [], ◌∷◌, map, fold, length, get_or, refl, sym, ap, ◌∙◌, arith, ◌↔◌, IsTrue}
-use Rattle.std.proofs.Common.{All, ◌⊎◌, inl, inr, leb, leb-true, lt-ltb}
+use Rattle.std.proofs.Common.{All, ◌⊎◌, inl, inr, leb, ltb, leb-true, lt-ltb}
 use Rattle.std.proofs.lemmas.Grind.{elements, same_number_lists}
 use lib.ListN.{length-map}
 use native.Mathlib.Nat.{min-eq_left, min-eq_right, le-min}
@@ -22,19 +22,29 @@ tested_number r [] h some = absurd (omega arith)
 tested_number true (b ∷ word) h some = sym (all_so is_ascii_digit (b ∷ word) (h.0 refl))
 tested_number false (b ∷ word) h some = sym (not_both (λ e. clash (h.1 (all_at is_ascii_digit (b ∷ word) e)) refl))
 
-digit_low : (b : ℕ) → is_digit b ≡ true → (48 ≤ b) × (b ≤ 57)
+pub digit_low : (b : ℕ) → is_digit b ≡ true → (48 ≤ b) × (b ≤ 57)
 unfolding is_digit
 digit_low b e =
     let parts = and_cases (leb 48 b) (leb b 57) e in
     (leb-true 48 b parts.0, leb-true b 57 parts.1)
 
-digits : (word : List ℕ) → is_number word ≡ true → all is_digit word ≡ true
+pub not_number : (word : List ℕ) (i : ℕ) → i < length word → is_digit (get_or word i 0) ≡ false → is_number word ≡ false
 unfolding is_number
-digits [] e = absurd (clash e refl)
-digits (b ∷ word) e = e
+not_number [] i h d = refl
+not_number (b ∷ word) i h d = not_both (λ e. clash (all_at is_digit (b ∷ word) e i 0 h) d)
+
+pub is_number_lem : (word : List ℕ) → all is_digit word ≡ true → ltb 0 (length word) ≡ is_number word
+unfolding is_number
+is_number_lem [] e = refl
+is_number_lem (b ∷ word) e = rw (e, lt-ltb 0 (length (b ∷ word)) (omega arith))
+
+pub number_digits : (word : List ℕ) → is_number word ≡ true → all is_digit word ≡ true
+unfolding is_number
+number_digits [] e = absurd (clash e refl)
+number_digits (b ∷ word) e = e
 
 pub digits_low : (word : List ℕ) → is_number word ≡ true → All (λ b. (48 ≤ b) × (b ≤ 57)) word
-digits_low word number k d below = digit_low (get_or word k d) (all_at is_digit word (digits word number) k d below)
+digits_low word number k d below = digit_low (get_or word k d) (all_at is_digit word (number_digits word number) k d below)
 
 -- with one digit more, a count that is not 0 is above 8, for which 9 stands
 digit_more : (n b : ℕ) → (48 ≤ b) × (b ≤ 57) → min 9 (10 * n + digit_of b) ≡ with_digit (min 9 n) b

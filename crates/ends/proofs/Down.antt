@@ -1,6 +1,6 @@
--- Laws of `place_down`, the place of a word looked for from the last one down: that it is what an iterator finds; that it is within the words; and that in a
--- stack's words, bottom first, as many words stand before it as the stack has below it.
-use Prim.Native.Nat.{ℕ, zero, suc, ◌<◌, ◌≤◌}
+-- Laws of `place_down`, the place of a word looked for from the last one down: what the last word says of it; that it is what an iterator finds; that
+-- it is within the words; and that in a stack's words, bottom first, as many words stand before it as the stack has below it.
+use Prim.Native.Nat.{ℕ, zero, suc, ◌-◌, ◌<◌, ◌≤◌}
 use mathlib.Core.Path.{◌≡◌, refl, sym}
 use mathlib.Core.Bool.{cond}
 use mathlib.Core.List.{List, [], ◌∷◌, ◌++◌, reverse, reverse-cons}
@@ -15,6 +15,16 @@ use Rattle.std.specs.Option.{unwrap_or}
 use Rattle.graphs.proofs.Tests.{cond_ind, same?}
 use Rattle.moves.specs.Run.{below}
 use Rattle.ends.specs.Lasso.{place_down}
+
+pub place_here : (i x : ℕ) (l : List ℕ) → 0 < i → get_or l (i - 1) 0 ≡ x → place_down i x l ≡ i - 1
+unfolding place_down
+place_here zero x l h e = absurd (omega arith)
+place_here (suc i) x l h e = let at : suc i - 1 ≡ i = omega arith in rw (eq-eqb (get_or l i 0) x (rw at at e)) (sym at)
+
+pub place_lower : (i x : ℕ) (l : List ℕ) → 0 < i → get_or l (i - 1) 0 ≢ x → place_down i x l ≡ place_down (i - 1) x l
+unfolding place_down
+place_lower zero x l h ne = absurd (omega arith)
+place_lower (suc i) x l h ne = let at : suc i - 1 ≡ i = omega arith in rw (ne_eqb (get_or l i 0) x (rw at at ne), at)
 
 place_at : (j i x : ℕ) (l : List ℕ) → i < j → get_or l i 0 ≡ x → ((k : ℕ) → i < k → k < j → get_or l k 0 ≢ x) → place_down j x l ≡ i
 unfolding place_down

@@ -36,13 +36,24 @@ pub fn show(room: &[u16], lasso: &mut [u16], n: usize, p: usize, x: u16, used: u
     let a = stretch_at(n, p);
     let o = a + 2 * n;
     let i = a + 3 * n + 1;
-    lasso[..outer].copy_from_slice(&room[o..o + outer]);
-    lasso[outer..outer + inner].copy_from_slice(&room[i..i + inner]);
+    copy(&mut lasso[..outer], &room[o..o + outer]);
+    copy(&mut lasso[outer..outer + inner], &room[i..i + inner]);
     let stem = place_down(&room[o..o + outer], x);
     Outcome::Cycle {
         stem,
         loop_: outer + inner - stem,
         used,
+    }
+}
+
+// Not `copy_from_slice`, for which the library for C would need memmove from outside. By index, since of `iter_mut` no more than the length is known.
+#[tactic(auto, using(crate::proofs::Copied::copied_more, crate::proofs::Copied::copied_all))]
+fn copy(to: &mut [u16], from: &[u16])
+    requires { length to.old ≡ length from.now }
+    ensures { to.new ≡ from.now }
+{
+    for i in 0..from.len() {
+        to[i] = from[i];
     }
 }
 

@@ -39,5 +39,11 @@ upd_was f i j b = upd_ind (λ k a. a ≡ not b → f k ≡ not b) f i b (differ 
 pub upd_up : (f : ℕ → Bool) (i j : ℕ) → f j ≡ true → upd f i true j ≡ true
 upd_up f i j = upd_ind (λ k a. f k ≡ true → a ≡ true) f i true (λ e. refl) (λ k ne e. e) j
 
+pub upd_down : (f : ℕ → Bool) (i j : ℕ) → f j ≡ false → upd f i false j ≡ false
+upd_down f i j = upd_ind (λ k a. f k ≡ false → a ≡ false) f i false (λ e. refl) (λ k ne e. e) j
+
 pub upd_cases : (f : ℕ → Bool) (i j : ℕ) → upd f i true j ≡ true → (j ≡ i) ⊎ (f j ≡ true)
 upd_cases f i j = upd_ind (λ k a. a ≡ true → (k ≡ i) ⊎ (f k ≡ true)) f i true (λ e. inl refl) (λ k ne e. inr e) j
+
+pub upd_off : (f : ℕ → Bool) (i j : ℕ) → f j ≡ true → (j ≡ i) ⊎ (upd f i false j ≡ true)
+upd_off f i j = upd_ind (λ k a. f k ≡ true → (k ≡ i) ⊎ (a ≡ true)) f i false (λ e. inl refl) (λ k ne e. inr e) j

@@ -1,7 +1,8 @@
 -- Laws of `every`: a test of all numbers below n. A loop that counts up keeps `every i f ≡ true` and leaves at the first i that fails. Whether some
 -- number below n passes a test can be found out.
-use Rattle.std.proofs.Common.{ℕ, zero, suc, ◌<◌, ◌≡◌, refl, ap, ◌∙◌, Bool, true, false, not, ◌⊎◌, inl, inr, ◌≢◌, arith}
+use Rattle.std.proofs.Common.{ℕ, zero, suc, ◌+◌, ◌<◌, ◌≡◌, refl, ap, ◌∙◌, Bool, true, false, not, ◌⊎◌, inl, inr, ◌≢◌, arith}
 use borrow.Author.Tests.{not-true, not-false}
+use native.Mathlib.Numerals.{add-one}
 use Rattle.graphs.specs.Lists.{every}
 use Rattle.graphs.proofs.Tests.{either, same?, clash, not_both, and_cases}
 
@@ -23,6 +24,10 @@ pub every_ext : (n : ℕ) (f h : ℕ → Bool) → ((i : ℕ) → i < n → f i 
 unfolding every
 every_ext zero f h e = refl
 every_ext (suc n) f h e = rw (e n (omega arith), every_ext n f h (λ i k. e i (omega arith)))
+
+pub every_more : (i : ℕ) (f : ℕ → Bool) → every i f ≡ true → f i ≡ true → every (i + 1) f ≡ true
+unfolding every
+every_more i f e h = rw (add-one, h) e
 
 pub every_not : (n : ℕ) (f : ℕ → Bool) (i : ℕ) → i < n → f i ≡ false → every n f ≡ false
 every_not n f i h e = not_both (λ a. clash (every_at n f a i h) e)

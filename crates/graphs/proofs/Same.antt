@@ -1,5 +1,5 @@
 -- Laws of `same`, `all` and `any`: tests of lists, word by word.
-use Rattle.std.proofs.Common.{ℕ, zero, suc, ◌<◌, ◌≡◌, refl, Bool, true, false, ◌&&◌, List, [], ◌∷◌, ◌++◌, ◌≢◌, eqb, length, get_or, eqb-true, eq-eqb}
+use Rattle.std.proofs.Common.{ℕ, zero, suc, ◌<◌, ◌≡◌, refl, Bool, true, false, ◌&&◌, ◌||◌, List, [], ◌∷◌, ◌++◌, ◌≢◌, eqb, length, get_or, eqb-true, eq-eqb}
 use Rattle.std.proofs.Common.{arith}
 use Rattle.graphs.specs.Lists.{same, all, any}
 use Rattle.graphs.proofs.Tests.{and_cases, clash, not_both, or_left, or_right}
@@ -31,12 +31,21 @@ and_join : (a b c d : Bool) → d ≡ (b && c) → (a && d) ≡ ((a && b) && c)
 and_join true b c d e = e
 and_join false b c d e = refl
 
+or_join : (a b c d : Bool) → d ≡ (b || c) → (a || d) ≡ ((a || b) || c)
+or_join true b c d e = refl
+or_join false b c d e = e
+
 -- a test of the members of a joined list
 module _ {ℓ} {A : Type ℓ} (f : A → Bool) where
   pub all_join : (l m : List A) → all f (l ++ m) ≡ (all f l && all f m)
   unfolding all
   all_join [] m = refl
   all_join (x ∷ l) m = and_join (f x) (all f l) (all f m) (all f (l ++ m)) (all_join l m)
+
+  pub any_join : (l m : List A) → any f (l ++ m) ≡ (any f l || any f m)
+  unfolding any
+  any_join [] m = refl
+  any_join (x ∷ l) m = or_join (f x) (any f l) (any f m) (any f (l ++ m)) (any_join l m)
 
   -- the test at a place of a list
   pub all_at : (l : List A) → all f l ≡ true → (i : ℕ) (d : A) → i < length l → f (get_or l i d) ≡ true

@@ -1,8 +1,11 @@
--- Laws of `refusal_of`: no refusal means that all five checks passed; and what `check` and `Plan::fits` rest on.
+-- Laws of `refusal_of`: the turn list counts last; no refusal means that all five checks passed; the numbers are 9 to 13; and what `check` and
+-- `Plan::fits` rest on.
 use Prim.Native.Nat.{ℕ, suc, ◌*◌, ◌<◌, ◌≤◌}
 use mathlib.Core.Path.{◌≡◌, refl, sym}
 use mathlib.Core.Bool.{Bool, true, false, cond, not}
 use mathlib.Core.List.{List, [], ◌∷◌}
+use mathlib.Core.Logic.{◌⊎◌, inl, inr}
+use lib.Dec.{eqb}
 use lib.ListN.{length, get_or}
 use native.Mathlib.Omega.{arith}
 use borrow.Author.Tests.{leb-true, ltb-true, lt-ltb}
@@ -21,6 +24,13 @@ use Rattle.limits.specs.Refusals.{most_workers, workers_fit, room_fits, lasso_fi
 abbrev first_of : (a b c d e : Bool) → ℕ
 first_of a b c d e = cond (not a) 9 (cond (not b) 10 (cond (not c) 11 (cond (not d) 12 (cond (not e) 13 0))))
 
+last_check : (a b c d e : Bool) → first_of a b c d e ≡ cond (eqb (first_of a b c d true) 0) (cond (not e) 13 0) (first_of a b c d true)
+last_check false b c d e = refl
+last_check true false c d e = refl
+last_check true true false d e = refl
+last_check true true true false e = refl
+last_check true true true true e = refl
+
 all_passed : (a b c d e : Bool) → first_of a b c d e ≡ 0 → (a ≡ true) × (b ≡ true) × (c ≡ true) × (d ≡ true) × (e ≡ true)
 all_passed false b c d e h = absurd (omega arith)
 all_passed true false c d e h = absurd (omega arith)
@@ -28,6 +38,14 @@ all_passed true true false d e h = absurd (omega arith)
 all_passed true true true false e h = absurd (omega arith)
 all_passed true true true true false h = absurd (omega arith)
 all_passed true true true true true h = (refl, refl, refl, refl, refl)
+
+first_low : (a b c d e : Bool) → (first_of a b c d e ≡ 0) ⊎ ((9 ≤ first_of a b c d e) × (first_of a b c d e ≤ 13))
+first_low false b c d e = inr (omega arith, omega arith)
+first_low true false c d e = inr (omega arith, omega arith)
+first_low true true false d e = inr (omega arith, omega arith)
+first_low true true true false e = inr (omega arith, omega arith)
+first_low true true true true false = inr (omega arith, omega arith)
+first_low true true true true true = inl refl
 
 pub workers_few : (P : ℕ) → workers_fit P ≡ true → (0 < P) × (P ≤ most_workers)
 workers_few P t = let parts = and_cases _ _ t in (leb-true 1 P parts.0, leb-true P most_workers parts.1)
@@ -60,6 +78,12 @@ module _ (room lasso : ℕ) (turns offsets targets flags : List ℕ) (P : ℕ) w
   abbrev e : Bool
   e = turns_fit turns P
 
+  pub refusal_turns :
+      refusal_of room lasso turns offsets targets flags P
+      ≡ cond (eqb (refusal_of room lasso [] offsets targets flags P) 0) (cond (not e) 13 0) (refusal_of room lasso [] offsets targets flags P)
+  unfolding refusal_of all
+  refusal_turns = last_check a b c d e
+
   pub fine : refusal_of room lasso turns offsets targets flags P ≡ 0 → Fine room lasso turns offsets targets flags P
   unfolding refusal_of
   fine h =
@@ -73,6 +97,12 @@ module _ (room lasso : ℕ) (turns offsets targets flags : List ℕ) (P : ℕ) w
         lasso_fits = leb-true _ _ passed.3;
         named = turns_named turns P passed.4;
       }
+
+  pub refusal_low :
+      (refusal_of room lasso turns offsets targets flags P ≡ 0)
+      ⊎ ((9 ≤ refusal_of room lasso turns offsets targets flags P) × (refusal_of room lasso turns offsets targets flags P ≤ 13))
+  unfolding refusal_of
+  refusal_low = first_low a b c d e
 
 -- what `check` knows where it asks for the room's size
 pub few_workers : (P : ℕ) → workers_fit P ≡ true → P ≤ most_workers

@@ -1,8 +1,10 @@
--- Laws of writing into a page: nothing, and one piece after another.
-use Rattle.std.proofs.Common.{◌≡◌, ℕ, ◌+◌, ◌≤◌, ◌<◌, List, [], ◌++◌, length, take, drop, sym, ap, ◌∙◌, ◌⊎◌, inl, inr, arith, append_assoc, length-append, take-append-drop, drop_at}
+-- Laws of writing into a page: nothing, one byte, and one piece after another.
+use Rattle.std.proofs.Common.{◌≡◌, ℕ, ◌+◌, ◌≤◌, ◌<◌, List, [], ◌∷◌, ◌++◌, length, take, drop, sym, ap, ◌∙◌, ◌⊎◌, inl, inr, arith, append_assoc, length-append, take-append-drop, drop_at}
 use Rattle.graphs.proofs.Tests.{below?}
-use lib.Seq.{drop-drop}
+use lib.ListN.{set}
+use lib.Seq.{drop-drop, set_split}
 use native.Mathlib.Nat.{add-zero}
+use native.Mathlib.Numerals.{add-one}
 use Rattle.std.proofs.lemmas.Grind.{common_steps}
 use Rattle.std.proofs.lemmas.List.Folds.{length-flat_map-take}
 use Rattle.page.specs.declared.Page.{Page as Lent}
@@ -12,6 +14,10 @@ use Rattle.page.specs.Page.{Page, written, onto, puts, Adds}
 pub onto_none : (page : Page) → page ≡ onto page []
 unfolding onto
 onto_none page = rw (add-zero, take-append-drop)
+
+pub puts_one : (page : List ℕ) (at b : ℕ) → at < length page → written (at + 1) (set page at b) ≡ puts page at (b ∷ [])
+unfolding onto
+puts_one page at b h = rw (set_split page at b h, add-one)
 
 -- the front of a page that is written on
 front : (e : ℕ) (bs l : List ℕ) → take (e + length l) (take e bs ++ (l ++ drop (e + length l) bs)) ≡ take e bs ++ l

@@ -1,16 +1,17 @@
--- What a reading gives: labels within the text; or a refusal, whose line is short. Either way its lines are those of the page.
+-- What a reading gives: a graph, and labels within the text; or a refusal, whose line is short. Either way its lines are those of the page.
 use Prim.Native.Nat.{ℕ, ◌+◌, ◌≤◌}
 use mathlib.Core.Path.{◌≡◌, sym, ap, ◌∙◌}
-use mathlib.Core.Bool.{Bool}
+use mathlib.Core.Bool.{Bool, true}
 use mathlib.Core.List.{List}
 use lib.ListN.{length, take, length-take}
 use native.Mathlib.Omega.{arith}
 use Rattle.std.specs.Prelude.{Ok, Err}
+use Rattle.graphs.specs.Words.{is_graph}
 use Rattle.statelist.specs.declared.Size.{Size}
 use Rattle.statelist.specs.declared.ReadError.{ReadError}
-use Rattle.text.specs.Lists.{outcome}
+use Rattle.text.specs.Lists.{Told, graph, refusal, outcome}
 use Rattle.statelist.specs.Told.{told, comes}
-use Rattle.statelist.proofs.Promises.{read_fits, read_within}
+use Rattle.statelist.proofs.Promises.{read_fits, read_graph, read_within}
 use Rattle.report.specs.declared.labels.Labels.{Labels}
 use Rattle.report.specs.Report.{reading_line}
 use Rattle.programs.specs.Given.{Given}
@@ -23,6 +24,11 @@ use Rattle.programs.proofs.Searched.{searched_short}
 pub list_fits : (o t f p : ℕ) (text : List ℕ) (size : Size) (offsets targets flags places : List ℕ)
     → comes (Ok size) offsets targets flags places ≡ outcome o t f p text → (size.states + 1 ≤ o) × (size.transitions ≤ t) × (size.states ≤ f)
 list_fits o t f p text size offsets targets flags places is = read_fits o t f p text size.states size.transitions offsets targets flags places is
+
+pub list_graph : (o t f p : ℕ) (text : List ℕ) (size : Size) (offsets targets flags places : List ℕ)
+    → comes (Ok size) offsets targets flags places ≡ outcome o t f p text
+    → is_graph (take (size.states + 1) offsets) (take size.transitions targets) (take size.states flags) ≡ true
+list_graph o t f p text size offsets targets flags places is = read_graph o t f p text size.states size.transitions offsets targets flags places is
 
 pub read_given : (o t f p : ℕ) (labels : Labels) (size : Size) (offsets targets flags : List ℕ)
     → comes (Ok size) offsets targets flags labels.places.now ≡ outcome o t f p labels.text.now → Given (take size.states flags) labels
@@ -38,8 +44,9 @@ read_given o t f p labels size offsets targets flags is =
     long : length (take size.states flags) ≤ size.states
     long = let part = length-take size.states flags in omega (arith, part)
 
-pub reading_long : (error : ReadError) → length (reading_line (told (Err error))) ≤ 50
-reading_long error = refused_long _ _
+pub reading_long : (t : Told) → length (reading_line t) ≤ 50
+reading_long (graph n e) = omega arith
+reading_long (refusal number line) = refused_long number line
 
 -- the page of `skiffplank`
 module _ (text : List ℕ) (short : length text ≤ skiffplank.most_input) where

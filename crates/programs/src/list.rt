@@ -1,4 +1,6 @@
 // What `read` leaves of a text that it takes.
+ghost use Rattle.std.specs.Prelude.{◌≡◌, true};
+ghost use Rattle.graphs.specs.Words.{is_graph};
 ghost use Rattle.programs.specs.Given.{Given};
 
 use report::Labels;
@@ -11,6 +13,7 @@ pub struct StateList<'a> {
     pub targets: &'a [u16],
     pub flags: &'a [u16],
     pub labels: Labels<'a>,
+    pub ghost is_graph: { is_graph offsets.now targets.now flags.now ≡ true },
     pub ghost given: { Given flags.now labels },
 }
 

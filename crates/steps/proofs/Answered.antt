@@ -28,6 +28,8 @@ use Rattle.theory.specs.Rules.{Rule, by_start, by_skip, by_enter, by_leave, by_s
 use Rattle.theory.specs.Rules.{by_rest}
 use Rattle.theory.proofs.Demands.{graph_of_words}
 use Rattle.theory.proofs.Run.{turn_shallow}
+use Rattle.turn.proofs.Given as before
+use Rattle.turn.proofs.Given.{Given}
 use Rattle.turn.specs.Turn.{Formed, Turned}
 use Rattle.steps.specs.declared.Verdict.{Verdict}
 use Rattle.steps.specs.declared.Verdict.TheVariants.{Quiet, Found}
@@ -102,6 +104,16 @@ all_done_is n P m rest l seen =
     let word = own_word n P q h m rest l seen (5 * n + 0) (omega arith) ∙ last_at n (m.worker q) (seen.fits q h) 0 in
     rw (at, word) (kind_done (m.worker q).place))
 
+pub verdict_is : (n P : ℕ) (m : Machine) (rest l : List ℕ) → Seen n P m rest l → (made : Move) → verdict_in n P made l ≡ verdict_of P m made
+verdict_is n P m rest l seen made = ap (verdict_by made) (all_done_is n P m rest l seen)
+
+-- the room of a machine is long enough for it
+pub room_held : {offsets targets flags : List ℕ} {P p : ℕ} {m : Machine} {rest l : List ℕ} → Held offsets targets flags P → p < P
+    → Formed offsets targets flags P m rest l → room_size (length flags) P ≤ length l
+room_held {offsets} {targets} {flags} {P} {p} {m} {rest} {l} held named formed =
+    let given : Given offsets targets flags P p m rest l = record { is = held.graph; named = named; formed = formed } in
+    omega (arith, long (length flags) P m rest l (before.seen given))
+
 -- a turn and its verdict, on a machine that the room is the form of
 module _ {offsets targets flags : List ℕ} {P p : ℕ} {m : Machine} {rest l : List ℕ} (held : Held offsets targets flags P) (named : p < P)
     (formed : Formed offsets targets flags P m rest l) {made : Move} {l' : List ℕ} (turned : Turned offsets targets flags p P m rest l' made) where
@@ -120,8 +132,8 @@ module _ {offsets targets flags : List ℕ} {P p : ℕ} {m : Machine} {rest l : 
   seen : Seen n P (turn g p m).machine rest l'
   seen = record { form = turned.room'; fits = fits }
 
-  pub room_held : room_size n P ≤ length l'
-  room_held = omega (arith, long n P (turn g p m).machine rest l' seen)
+  pub room_held_after : room_size n P ≤ length l'
+  room_held_after = omega (arith, long n P (turn g p m).machine rest l' seen)
 
   pub stepped : {t t' : Tally} {r : Option Verdict} → t' ≡ raised t made → r ≡ verdict_in n P made l'
       → Stepped offsets targets flags P p m rest t r l' t'
@@ -130,5 +142,5 @@ module _ {offsets targets flags : List ℕ} {P p : ℕ} {m : Machine} {rest l : 
         form = turned.room';
         tally = e ∙ ap (raised t) turned.move;
         verdict =
-            v ∙ ap (λ k. verdict_in n P k l') turned.move ∙ ap (verdict_by (turn g p m).move) (all_done_is n P (turn g p m).machine rest l' seen);
+            v ∙ ap (λ k. verdict_in n P k l') turned.move ∙ verdict_is n P (turn g p m).machine rest l' seen (turn g p m).move;
       }

@@ -14,7 +14,7 @@ use Rattle.graphs.proofs.Same.{all_at}
 use Rattle.graphs.proofs.Words.{IsGraph, are_words}
 use Rattle.text.specs.Text.{State, Transition, Seen, reads, meaning}
 use Rattle.text.specs.Lists.{padded, places_of, flags_of, targets_of, offsets_of, rooms_of}
-use Rattle.text.proofs.Zeros.{padded_take}
+use Rattle.text.proofs.Zeros.{padded_take, padded_long}
 use Rattle.text.proofs.Targets.{targets_total, targets_mono, targets_below, offset_at, offsets_long, successors_are}
 use Rattle.text.proofs.Good.{absent, Good}
 use Rattle.text.proofs.Meaning.{meaning_good}
@@ -97,7 +97,7 @@ module _ (o t f p : ℕ) (text : List ℕ) (seen : Seen) (means : meaning (rooms
   pub meaning_graph : is_graph offsets targets flags ≡ true
   meaning_graph = are_words offsets targets flags meaning_words
 
-  -- the lists of a reading have these words first
+  -- the lists of a reading: as long as the rooms, and with these words first
   pub offsets_first : take (n + 1) (padded o offsets) ≡ offsets
   offsets_first = padded_take o (n + 1) offsets (offsets_long n ts ∙ sym (add-one n))
 
@@ -106,3 +106,18 @@ module _ (o t f p : ℕ) (text : List ℕ) (seen : Seen) (means : meaning (rooms
 
   pub flags_first : take n (padded f flags) ≡ flags
   flags_first = padded_take f n flags (flags_long seen.states)
+
+  pub places_first : take (2 * n) (padded p places) ≡ places
+  places_first = padded_take p (2 * n) places (places_long seen.states)
+
+  pub offsets_fill : length (padded o offsets) ≡ o
+  offsets_fill = padded_long o offsets (omega (arith, offsets_long n ts, states_fit.1))
+
+  pub targets_fill : length (padded t targets) ≡ t
+  targets_fill = padded_long t targets (omega (arith, total, transitions_fit.1))
+
+  pub flags_fill : length (padded f flags) ≡ f
+  flags_fill = padded_long f flags (omega (arith, flags_long seen.states, states_fit.2))
+
+  pub places_fill : length (padded p places) ≡ p
+  places_fill = padded_long p places (omega (arith, places_long seen.states, states_fit.3))

@@ -1,4 +1,4 @@
--- Laws of lists with zeros behind: what a padded list is.
+-- Laws of lists with zeros behind: how long a padded list is, and what it is.
 use Prim.Native.Nat.{ℕ, ◌+◌, ◌-◌, ◌<◌, ◌≤◌}
 use mathlib.Core.Path.{◌≡◌, sym, ap, ◌∙◌}
 use mathlib.Core.List.{List, ◌++◌}
@@ -13,6 +13,13 @@ use Rattle.text.specs.Lists.{zeros, padded}
 pub padded_take : (k n : ℕ) (l : List ℕ) → length l ≡ n → take n (padded k l) ≡ l
 unfolding padded
 padded_take k n l e = take_at l (zeros (k - length l)) n e
+
+pub padded_long : (k : ℕ) (l : List ℕ) → length l ≤ k → length (padded k l) ≡ k
+unfolding padded
+padded_long k l h = simp (length-append, length-replicate) (omega arith)
+
+pub padded_whole : (l m : List ℕ) (k : ℕ) → l ≡ padded k m → length l ≡ k → l ≡ padded (length l) m
+padded_whole l m k e long = e ∙ ap (λ j. padded j m) (sym long)
 
 -- a list with the words of l in front and zeros behind them
 pub padded_is : (l m : List ℕ) → length l ≤ length m → ((v : ℕ) → v < length l → get_or m v 0 ≡ get_or l v 0)

@@ -14,7 +14,7 @@ pub returns-clause-lasso : goal.returns-clause-lasso
 returns-clause-lasso c =
     let outer = rw c.own_at-own.ensures at c.from-outer.ensures in
     let inner = rw c.own_at-own.ensures at c.from-inner.ensures in
-    stacked_lasso c.requires c.stretch_at-a.ensures outer inner c.copy_from_slice.ensures.after c.copy_from_slice-2.ensures.after
+    stacked_lasso c.requires c.stretch_at-a.ensures outer inner c.copy.ensures c.copy-2.ensures
 
 pub returns-clause-found : goal.returns-clause-found
 returns-clause-found c =

@@ -3,11 +3,13 @@ use Rattle.std.proofs.Common.{arith, subst}
 use Rattle.limits.specs.Plans.{listed}
 use Rattle.page.specs.Page.{Adds}
 use Rattle.programs.specs.Replay.{ending}
+use Rattle.std.specs.Prelude.{Err}
+use Rattle.statelist.specs.Told.{told}
 use Rattle.programs.proofs.Reading.{reading_long, replay_refused, replay_graph}
 use Rattle.programs.proofs.replay.put_replayed.Goals as goal
 
 pub put_reading-requires : goal.put_reading-requires
-put_reading-requires c = omega (arith, reading_long c.in-Err.error)
+put_reading-requires c = omega (arith, reading_long (told (Err c.in-Err.error)))
 
 pub returns-in-Ok : goal.returns-in-Ok
 returns-in-Ok c =

@@ -3,6 +3,8 @@ use Rattle.std.proofs.Common.{◌≤◌, length, arith, sym, subst}
 use Rattle.page.specs.Page.{Adds}
 use Rattle.programs.specs.Skiffplank.{most_input}
 use Rattle.programs.proofs.Lines.{refused_long}
+use Rattle.std.specs.Prelude.{Err}
+use Rattle.statelist.specs.Told.{told}
 use Rattle.programs.proofs.Reading.{reading_long, search_refused, search_graph}
 use Rattle.programs.proofs.Searched.{searched_long}
 use Rattle.programs.proofs.skiffplank.put_searched.Goals as goal
@@ -14,7 +16,7 @@ pub returns-then-text-gt-MOST_INPUT : goal.returns-then-text-gt-MOST_INPUT
 returns-then-text-gt-MOST_INPUT c = subst (Adds _ _) (sym (searched_long c.args.text.now c.if-text-gt-MOST_INPUT.true)) c.put_reading.ensures
 
 pub put_reading-requires-in-Err : goal.put_reading-requires-in-Err
-put_reading-requires-in-Err c = omega (arith, reading_long c.in-Err.error)
+put_reading-requires-in-Err c = omega (arith, reading_long (told (Err c.in-Err.error)))
 
 pub returns-in-Ok : goal.returns-in-Ok
 returns-in-Ok c =
