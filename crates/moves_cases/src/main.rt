@@ -2,7 +2,6 @@
 #![tactic(auto)]
 
 use moves::{Move, Place, Tally};
-use std::io;
 
 const PLACES: [Place; 5] = [
     Place::Fresh,
@@ -27,42 +26,44 @@ const MOVES: [(&str, Move); 12] = [
     ("rest", Move::Rest),
 ];
 
-fn main(rt: HostRuntime) -> io::Result<()> {
-    println!(rt; "move 1")?;
-    places(&rt, Place::started)?;
-    println!(rt; "move 3, not accepting")?;
-    places(&rt, |place| place.left(false))?;
-    places(&rt, |place| place.left(true))?;
-    println!(rt; "move 3, accepting")?;
-    places(&rt, |place| place.seeded(7))?;
-    println!(rt; "move 5")?;
-    places(&rt, |place| place.backed(false))?;
-    places(&rt, |place| place.backed(true))?;
-    println!(rt; "move 6")?;
-    places(&rt, |place| place.painted(false))?;
-    places(&rt, |place| place.painted(true))?;
-    println!(rt; "tally")?;
-    tallies(&rt)
+// A write that fails is let go: it doesn't end the program with an error.
+fn main(rt: HostRuntime) {
+    println!(rt; "move 1").ok();
+    places(&rt, Place::started);
+    println!(rt; "move 3, not accepting").ok();
+    places(&rt, |place| place.left(false));
+    places(&rt, |place| place.left(true));
+    println!(rt; "move 3, accepting").ok();
+    places(&rt, |place| place.seeded(7));
+    println!(rt; "move 5").ok();
+    places(&rt, |place| place.backed(false));
+    places(&rt, |place| place.backed(true));
+    println!(rt; "move 6").ok();
+    places(&rt, |place| place.painted(false));
+    places(&rt, |place| place.painted(true));
+    println!(rt; "tally").ok();
+    tallies(&rt);
 }
 
 // Where the move takes each place.
-fn places<F: Fn(Place) -> Place>(rt: &impl Print, made: F) -> io::Result<()>
+fn places<F: Fn(Place) -> Place>(rt: &impl Print, made: F)
     requires { F.IsAlwaysCallable made }
 {
     for place in PLACES {
         match made(place) {
-            Place::Fresh => print!(rt; "\tfresh")?,
-            Place::Outer => print!(rt; "\touter")?,
-            Place::Inner(s) => print!(rt; "\tinner {s}")?,
-            Place::Waiting(s) => print!(rt; "\twaiting {s}")?,
-            Place::Done => print!(rt; "\tdone")?,
+            Place::Fresh => print!(rt; "\tfresh"),
+            Place::Outer => print!(rt; "\touter"),
+            Place::Inner(s) => print!(rt; "\tinner {s}"),
+            Place::Waiting(s) => print!(rt; "\twaiting {s}"),
+            Place::Done => print!(rt; "\tdone"),
         }
+        .ok();
     }
-    println!(rt; "")
+    println!(rt; "").ok();
 }
 
 // A tally of 1 outer entry, 2 inner entries, 3 waits and 4 moves, after each move.
-fn tallies(rt: &impl Print) -> io::Result<()> {
+fn tallies(rt: &impl Print) {
     let before = Tally {
         outer: 1,
         inner: 2,
@@ -71,7 +72,6 @@ fn tallies(rt: &impl Print) -> io::Result<()> {
     };
     for (name, made) in MOVES {
         let t = before.raised(made);
-        println!(rt; "{}{}{}{}\t{name}", t.outer, t.inner, t.waits, t.moves)?;
+        println!(rt; "{}{}{}{}\t{name}", t.outer, t.inner, t.waits, t.moves).ok();
     }
-    Ok(())
 }

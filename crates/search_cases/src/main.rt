@@ -6,7 +6,6 @@
 
 use search::{Counted, Outcome};
 use std::array;
-use std::io::Result;
 
 // The most turns or words of a list, and the most words that a case lends.
 const MOST_LISTED: usize = 64;
@@ -15,21 +14,21 @@ const MOST_ROOM: usize = 400;
 
 const MOST_LASSO: usize = 32;
 
-fn main(rt: HostRuntime) -> Result<()> {
-    let mut input = [0u8; 65536];
-    let n = input::all(&mut rt.stdin(), &mut input)?;
-    cases(&rt, &input[..n])
+// A read that fails ends the input, and a write that fails is let go: neither ends the program with an error.
+fn main(rt: HostRuntime) {
+    let mut input = io::large_buffer();
+    let n = io::read_full(0, &mut input);
+    cases(&rt, &input[..n]);
 }
 
-fn cases(rt: &impl Print, input: &[u8]) -> Result<()> {
+fn cases(rt: &impl Print, input: &[u8]) {
     for line in input.split_inclusive(|b| *b == b'\n') {
-        run(rt, line.strip_suffix(b"\n").unwrap_or(line))?;
+        run(rt, line.strip_suffix(b"\n").unwrap_or(line));
     }
-    Ok(())
 }
 
 // Lends rooms that hold 9 everywhere, which no word of these cases is to become: so the output shows which words the run has set.
-fn run(rt: &impl Print, case: &[u8]) -> Result<()> {
+fn run(rt: &impl Print, case: &[u8]) {
     let mut fields = case.split(|b| *b == b'\t');
     let [name, workers, room, lasso, turns, offsets, targets, flags]: [&[u8]; 8] = array::from_fn(
         |_| fields.next().unwrap_or(&[]),
@@ -55,20 +54,22 @@ fn run(rt: &impl Print, case: &[u8]) -> Result<()> {
             workers,
         )
     };
-    rt.write_all(name)?;
-    println!(rt; "")?;
+    rt.write_all(name).ok();
+    println!(rt; "").ok();
     match outcome {
-        Ok(Outcome::Cycle { stem, loop_, used }) => println!(rt; "cycle\t{stem}\t{loop_}\t{used}")?,
-        Ok(Outcome::None { used }) => println!(rt; "none\t{used}")?,
-        Ok(Outcome::Undecided { used }) => println!(rt; "undecided\t{used}")?,
-        Err(error) => println!(rt; "refused\t{}", error.number())?,
+        Ok(Outcome::Cycle { stem, loop_, used }) => println!(rt; "cycle\t{stem}\t{loop_}\t{used}"),
+        Ok(Outcome::None { used }) => println!(rt; "none\t{used}"),
+        Ok(Outcome::Undecided { used }) => println!(rt; "undecided\t{used}"),
+        Err(error) => println!(rt; "refused\t{}", error.number()),
     }
+    .ok();
     println!(rt;
         "tally\t{}\t{}\t{}\t{}",
         tally.outer, tally.inner, tally.waits, tally.moves
-    )?;
-    words(rt, "room", room)?;
-    words(rt, "lasso", lasso)
+    )
+    .ok();
+    words(rt, "room", room);
+    words(rt, "lasso", lasso);
 }
 
 // A decimal number, of 19 digits at most. Not by `parse`, which refuses what a case may hold: bytes that are no digits count by how far they are above `0`.
@@ -94,13 +95,14 @@ fn list<'a, T: From<u8> + Drop>(field: &[u8], words: &'a mut [T]) -> &'a [T] {
 }
 
 // A digit for each word. One above 9 would show as `+`.
-fn words(rt: &impl Print, name: &str, words: &[u16]) -> Result<()> {
-    print!(rt; "{name}\t")?;
-    for word in words {
-        match word {
-            0..=9 => print!(rt; "{word}")?,
-            _ => print!(rt; "+")?,
+fn words(rt: &impl Print, name: &str, words: &[u16]) {
+    let mut digits = [b'+'; MOST_ROOM];
+    for (digit, word) in digits.iter_mut().zip(words) {
+        if *word < 10 {
+            *digit = b'0' + *word as u8;
         }
     }
-    println!(rt; "")
+    print!(rt; "{name}\t").ok();
+    rt.write_all(&digits[..words.len().min(MOST_ROOM)]).ok();
+    println!(rt; "").ok();
 }
