@@ -94,7 +94,7 @@ fn list<'a, T: From<u8> + Drop>(field: &[u8], words: &'a mut [T]) -> &'a [T] {
     list
 }
 
-// A digit for each word. One above 9 would show as `+`.
+// A digit for each word, of which no list has more than a room. One above 9 would show as `+`.
 fn words(rt: &impl Print, name: &str, words: &[u16]) {
     let mut digits = [b'+'; MOST_ROOM];
     for (digit, word) in digits.iter_mut().zip(words) {

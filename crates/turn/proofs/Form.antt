@@ -16,6 +16,7 @@ use Rattle.moves.proofs.Parts.{six, Even, six_set_1, six_set_2, six_set_3, six_s
 use Rattle.moves.proofs.Words.{five}
 use Rattle.moves.specs.declared.own.Own.{Own}
 use Rattle.turn.specs.Stores.{put_words, clear_words}
+use Rattle.turn.proofs.Put.{put_six}
 
 -- cyan k and R r, the outer stack o and the inner stack i, the counts t, and the words q after them
 unfoldable pub form : ℕ → (ℕ → Bool) → (ℕ → Bool) → List ℕ → List ℕ → (ℕ → ℕ) → List ℕ → List ℕ
@@ -98,12 +99,5 @@ module _ (n : ℕ) where
   pub form_put : (k r : ℕ → Bool) (o i : List ℕ) (t : ℕ → ℕ) (a b c d : ℕ) (own : Own) → length o ≤ n → length i ≤ n
       → put_words n own (form n k r o i t (a ∷ b ∷ c ∷ d ∷ []))
       ≡ form n k r o i t (kind_word own.place ∷ seed_word own.place ∷ own.outer ∷ own.inner ∷ [])
-  unfolding put_words
-  form_put k r o i t a b c d own outer_fits inner_fits =
-      let first : 5 * n + 0 ≡ 5 * n = omega arith in
-      rw (
-        rw first at (form_last k r o i t (a ∷ b ∷ c ∷ d ∷ []) outer_fits inner_fits 0 (kind_word own.place)),
-        form_last,
-        form_last,
-        form_last,
-      )
+  unfolding form
+  form_put k r o i t a b c d own outer_fits inner_fits = put_six (five n k r o i t outer_fits inner_fits) own a b c d

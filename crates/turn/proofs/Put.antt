@@ -35,7 +35,7 @@ module _ {n : ℕ} {a b c d e : List ℕ} (even : Even n a b c d e) where
   even_5 i v = record { long_1 = even.long_1; long_2 = even.long_2; long_3 = even.long_3; long_4 = even.long_4; long_5 = length-set e i v ∙ even.long_5 }
 
   -- the last four words
-  put_six : (own : Own) (x y z t : ℕ)
+  pub put_six : (own : Own) (x y z t : ℕ)
       → put_words n own (six a b c d e (x ∷ y ∷ z ∷ t ∷ []))
       ≡ six a b c d e (kind_word own.place ∷ seed_word own.place ∷ own.outer ∷ own.inner ∷ [])
   unfolding put_words
@@ -46,7 +46,18 @@ module _ {n : ℕ} {a b c d e : List ℕ} (even : Even n a b c d e) where
   -- the number of the words
   six_long : (q : List ℕ) → length (six a b c d e q) ≡ 5 * n + length q
   six_long q =
-      rw (length-append, length-append, length-append, length-append, length-append, even.long_1, even.long_2, even.long_3, even.long_4, even.long_5) (omega arith)
+      rw (
+        length-append,
+        length-append,
+        length-append,
+        length-append,
+        length-append,
+        even.long_1,
+        even.long_2,
+        even.long_3,
+        even.long_4,
+        even.long_5,
+      ) (omega arith)
 
 module _ {n : ℕ} {a b c d e : List ℕ} (even : Even n a b c d e) (own : Own) (x y z t : ℕ) where
   -- the top of the outer stack leaves it, and the place is p then
@@ -75,46 +86,51 @@ module _ (k : Stretch) where
   abbrev own : Own
   own = own_in_parts k
 
-  abbrev pub q : List ℕ
-  q = kind_word k.place ∷ seed_word k.place ∷ k.outer_depth ∷ k.inner_depth ∷ []
+  abbrev pub last_words : List ℕ
+  last_words = kind_word k.place ∷ seed_word k.place ∷ k.outer_depth ∷ k.inner_depth ∷ []
 
   -- each part has n words
-  pub even : Even n k.cyan.now k.gathered.now k.outer.now k.inner.now k.taken.now
-  even = record { long_1 = refl; long_2 = k.even_gathered; long_3 = k.even_outer; long_4 = k.even_inner; long_5 = k.even_taken }
+  pub parts_even : Even n k.cyan.now k.gathered.now k.outer.now k.inner.now k.taken.now
+  parts_even = record { long_1 = refl; long_2 = k.even_gathered; long_3 = k.even_outer; long_4 = k.even_inner; long_5 = k.even_taken }
 
   -- move 1
   pub start_put : 0 < n
       → start_words n own (words k)
-      ≡ six (set k.cyan.now 0 1) k.gathered.now (set k.outer.now 0 0) k.inner.now k.taken.now (kind_word (started k.place) ∷ seed_word (started k.place) ∷ 1 ∷ k.inner_depth ∷ [])
+      ≡ six (set k.cyan.now 0 1) k.gathered.now (set k.outer.now 0 0) k.inner.now k.taken.now
+      (kind_word (started k.place) ∷ seed_word (started k.place) ∷ 1 ∷ k.inner_depth ∷ [])
   unfolding start_words
   start_put some =
-      let one = even_1 even 0 1 in
+      let one = even_1 parts_even 0 1 in
       let two = even_3 one 0 0 in
       let base : 2 * n + 0 ≡ 2 * n = omega arith in
-      rw (six_set_1 q even 0 1 some, rw base at (six_set_3 q one 0 0 some), put_six)
+      rw (six_set_1 last_words parts_even 0 1 some, rw base at (six_set_3 last_words one 0 0 some), put_six)
 
   -- moves 2 and 4
-  pub take_put : (s : ℕ) → s < n → take_words n s (words k) ≡ six k.cyan.now k.gathered.now k.outer.now k.inner.now (set k.taken.now s (get_or k.taken.now s 0 + 1)) q
+  pub take_put : (s : ℕ) → s < n
+      → take_words n s (words k)
+      ≡ six k.cyan.now k.gathered.now k.outer.now k.inner.now (set k.taken.now s (get_or k.taken.now s 0 + 1)) last_words
   unfolding take_words
-  take_put s h = rw (six_word_5 q even s h, six_set_5 q even s (get_or k.taken.now s 0 + 1) h)
+  take_put s h = rw (six_word_5 last_words parts_even s h, six_set_5 last_words parts_even s (get_or k.taken.now s 0 + 1) h)
 
   -- move 2
   pub enter_put : (s x : ℕ) → s < n → x < n → k.outer_depth < n
       → enter_words n own s x (words k)
-      ≡ six (set k.cyan.now x 1) k.gathered.now (set k.outer.now k.outer_depth x) k.inner.now (set k.taken.now s (get_or k.taken.now s 0 + 1)) (set q 2 (k.outer_depth + 1))
+      ≡ six (set k.cyan.now x 1) k.gathered.now (set k.outer.now k.outer_depth x) k.inner.now
+      (set k.taken.now s (get_or k.taken.now s 0 + 1)) (set last_words 2 (k.outer_depth + 1))
   unfolding enter_words
   enter_put s x hs hx room =
-      let one = even_5 even s (get_or k.taken.now s 0 + 1) in
+      let one = even_5 parts_even s (get_or k.taken.now s 0 + 1) in
       let two = even_1 one x 1 in
       let three = even_3 two k.outer_depth x in
-      rw (take_put s hs, six_set_1 q one x 1 hx, six_set_3, six_set_6)
+      rw (take_put s hs, six_set_1 last_words one x 1 hx, six_set_3, six_set_6)
 
   -- the top of the outer stack leaves it, and the place is p then
   module _ (s : ℕ) (h : s < n) (some : 0 < k.outer_depth) (deep : k.outer_depth ≤ n) where
     pub pop_put : (p : Place)
         → pop_words n own s p (words k)
-        ≡ six (set k.cyan.now s 0) k.gathered.now (set k.outer.now (k.outer_depth - 1) 0) k.inner.now (set k.taken.now s 0) (kind_word p ∷ seed_word p ∷ (k.outer_depth - 1) ∷ k.inner_depth ∷ [])
-    pop_put p = pop_six even own _ _ _ _ s p h some deep
+        ≡ six (set k.cyan.now s 0) k.gathered.now (set k.outer.now (k.outer_depth - 1) 0) k.inner.now (set k.taken.now s 0)
+        (kind_word p ∷ seed_word p ∷ (k.outer_depth - 1) ∷ k.inner_depth ∷ [])
+    pop_put p = pop_six parts_even own _ _ _ _ s p h some deep
 
     -- move 3, not accepting
     pub leave_put : leave_words n own s (words k)
@@ -129,29 +145,32 @@ module _ (k : Stretch) where
         (kind_word (painted k.place (k.outer_depth - 1 == 0)) ∷ seed_word (painted k.place (k.outer_depth - 1 == 0)) ∷ (k.outer_depth - 1) ∷ k.inner_depth ∷ [])
     unfolding paint_words clear_words
     paint_put =
-        let clear : Even n k.cyan.now (replicate n 0) k.outer.now k.inner.now k.taken.now = record { long_1 = even.long_1; long_2 = length-replicate n 0; long_3 = even.long_3; long_4 = even.long_4; long_5 = even.long_5 } in
-        rw (one_left k.outer_depth some, six_put_2 q even (replicate n 0)) (pop_six clear own _ _ _ _ s (painted k.place (k.outer_depth - 1 == 0)) h some deep)
+        let clear : Even n k.cyan.now (replicate n 0) k.outer.now k.inner.now k.taken.now =
+        record { long_1 = parts_even.long_1; long_2 = length-replicate n 0; long_3 = parts_even.long_3; long_4 = parts_even.long_4; long_5 = parts_even.long_5 } in
+        rw (one_left k.outer_depth some, six_put_2 last_words parts_even (replicate n 0)) (pop_six clear own _ _ _ _ s (painted k.place (k.outer_depth - 1 == 0)) h some deep)
 
   -- move 3, accepting
   pub seed_put : (s : ℕ) → s < n
       → seed_words n own s (words k)
-      ≡ six k.cyan.now (set k.gathered.now s 1) k.outer.now (set k.inner.now 0 s) (set k.taken.now s 0) (kind_word (seeded k.place s) ∷ seed_word (seeded k.place s) ∷ k.outer_depth ∷ 1 ∷ [])
+      ≡ six k.cyan.now (set k.gathered.now s 1) k.outer.now (set k.inner.now 0 s) (set k.taken.now s 0)
+      (kind_word (seeded k.place s) ∷ seed_word (seeded k.place s) ∷ k.outer_depth ∷ 1 ∷ [])
   unfolding seed_words
   seed_put s h =
       let some : 0 < n = omega arith in
-      let one = even_2 even s 1 in
+      let one = even_2 parts_even s 1 in
       let two = even_4 one 0 s in
       let three = even_5 two s 0 in
       let base : 3 * n + 0 ≡ 3 * n = omega arith in
-      rw (six_set_2 q even s 1 h, rw base at (six_set_4 q one 0 s some), six_set_5, put_six)
+      rw (six_set_2 last_words parts_even s 1 h, rw base at (six_set_4 last_words one 0 s some), six_set_5, put_six)
 
   -- move 4
   pub join_put : (s x : ℕ) → s < n → x < n → k.inner_depth < n
       → join_words n own s x (words k)
-      ≡ six k.cyan.now (set k.gathered.now x 1) k.outer.now (set k.inner.now k.inner_depth x) (set k.taken.now s (get_or k.taken.now s 0 + 1)) (set q 3 (k.inner_depth + 1))
+      ≡ six k.cyan.now (set k.gathered.now x 1) k.outer.now (set k.inner.now k.inner_depth x)
+      (set k.taken.now s (get_or k.taken.now s 0 + 1)) (set last_words 3 (k.inner_depth + 1))
   unfolding join_words
   join_put s x hs hx room =
-      let one = even_5 even s (get_or k.taken.now s 0 + 1) in
+      let one = even_5 parts_even s (get_or k.taken.now s 0 + 1) in
       let two = even_2 one x 1 in
       let three = even_4 two k.inner_depth x in
       rw (take_put s hs, six_set_2, six_set_4, six_set_6)
@@ -164,9 +183,9 @@ module _ (k : Stretch) where
   unfolding back_words
   back_put s h some deep =
       let under : k.inner_depth - 1 < n = omega arith in
-      let one = even_4 even (k.inner_depth - 1) 0 in
+      let one = even_4 parts_even (k.inner_depth - 1) 0 in
       let two = even_5 one s 0 in
-      rw (six_set_4 q even (k.inner_depth - 1) 0 under, six_set_5, put_six)
+      rw (six_set_4 last_words parts_even (k.inner_depth - 1) 0 under, six_set_5, put_six)
 
 -- six joined lists are the same as six others only if they are so one by one
 pub record Apart (a b c d e q a' b' c' d' e' q' : List ℕ) : Type 0 where
@@ -202,8 +221,9 @@ pub record Popped (k k' : Stretch) (s : ℕ) : Type 0 where
 pub popped : (k k' : Stretch) (s : ℕ) → s < length k.cyan.now → 0 < k.outer_depth → k.outer_depth ≤ length k.cyan.now
     → words k' ≡ pop_words (length k.cyan.now) (own_in_parts k) s k.place (words k) → Popped k k' s
 popped k k' s h some deep e =
-    let after = even_5 (even_3 (even_1 (even k) s 0) (k.outer_depth - 1) 0) s 0 in
-    let p = apart (q k') (kind_word k.place ∷ seed_word k.place ∷ (k.outer_depth - 1) ∷ k.inner_depth ∷ []) (even k') after refl (e ∙ pop_put k s h some deep k.place) in
+    let after = even_5 (even_3 (even_1 (parts_even k) s 0) (k.outer_depth - 1) 0) s 0 in
+    let p = apart (last_words k') (kind_word k.place ∷ seed_word k.place ∷ (k.outer_depth - 1) ∷ k.inner_depth ∷ [])
+    (parts_even k') after refl (e ∙ pop_put k s h some deep k.place) in
     record {
       place = place_one k'.place k.place (ap (λ l. get_or l 0 0) p.same_6) (ap (λ l. get_or l 1 0) p.same_6);
       cyan = p.same_1;

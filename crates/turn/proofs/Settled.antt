@@ -9,7 +9,7 @@ use Rattle.moves.proofs.Room.{place_one}
 use Rattle.turn.specs.declared.stretch.Stretch.{Stretch}
 use Rattle.turn.specs.Stores.{words}
 use Rattle.turn.specs.Turn.{Poised, Turns}
-use Rattle.turn.proofs.Put.{apart, even, q}
+use Rattle.turn.proofs.Put.{apart, last_words, parts_even}
 
 pub turn_settled : (offsets targets flags : List ℕ) (p : ℕ) (l : List ℕ) → Poised offsets targets flags p l
     → (l' l'' : List ℕ) (r r' : Move) → Turns offsets targets flags p l l' r → Turns offsets targets flags p l l'' r' → (l' ≡ l'') × (r ≡ r')
@@ -31,7 +31,7 @@ pub record SameStretch (k k' : Stretch) : Type 0 where
 
 pub stretch_settled : (l : List ℕ) (k k' : Stretch) → words k ≡ l → words k' ≡ l → SameStretch k k'
 stretch_settled l k k' a b =
-    let p = apart (q k) (q k') (even k) (even k') refl (a ∙ sym b) in
+    let p = apart (last_words k) (last_words k') (parts_even k) (parts_even k') refl (a ∙ sym b) in
     record {
       place = place_one k.place k'.place (ap (λ l. get_or l 0 0) p.same_6) (ap (λ l. get_or l 1 0) p.same_6);
       cyan = p.same_1;
